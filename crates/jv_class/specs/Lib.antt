@@ -1,0 +1,4 @@
+pub mod Layout
+pub mod Outlines
+pub mod Form
+pub mod Reading

@@ -1,0 +1,10 @@
+//! Class files: the form of a class of static methods over words, and its reader.
+#![tactic(auto)]
+
+mod number;
+mod outline;
+mod read_error;
+mod static_class;
+
+pub use read_error::ReadError;
+pub use static_class::{Instruction, Method, Placed, StaticClass};
