@@ -1,0 +1,4 @@
+pub mod Machine
+pub mod Reach
+pub mod Lines
+pub mod Promise

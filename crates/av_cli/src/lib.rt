@@ -1,0 +1,2 @@
+//! The commands of averroes.
+#![tactic(auto)]
