@@ -1,0 +1,8 @@
+//! The outside of the program: where files are read and written, and where printed bytes go.
+#![tactic(auto)]
+
+mod host;
+mod sink;
+
+pub use host::{Host, HostCall, HostFault, HostFile};
+pub use sink::{Sink, SinkFault};
