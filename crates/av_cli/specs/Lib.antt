@@ -2,3 +2,5 @@ pub mod Machine
 pub mod Reach
 pub mod Lines
 pub mod Promise
+pub mod Answers
+pub mod Handing

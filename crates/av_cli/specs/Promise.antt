@@ -3,7 +3,7 @@ use Rattle.std.specs.Prelude.{◌≡◌, ℕ, Bool, List, Contains}
 use Rattle.std.specs.List.{AllByRecursion}
 use Rattle.jv_class.specs.declared.static_class.StaticClass.{StaticClass}
 use Rattle.jv_class.specs.Form.{IsStaticClass}
-use Rattle.av_cli.specs.Machine.{Event, MethodCall, IsRun}
+use Rattle.av_cli.specs.Machine.{Event, MethodCall, IsMain, IsRun}
 use Rattle.av_cli.specs.Reach.{IsLeast}
 use Rattle.av_cli.specs.Lines.{HasLine, AreLines, text_of_lines}
 
@@ -12,12 +12,13 @@ abbrev pub AllHaveLines : StaticClass → List (List ℕ) → List MethodCall �
 AllHaveLines class lines calls =
     AllByRecursion (λ call. (line : List ℕ) × HasLine class call.origin call.callee line × Contains lines line) calls
 
--- The bytes are one class and no other, and the text is the lines of its least set: exactly them, sorted
--- and none twice; and whatever run the class has, each of its calls has its line.
+-- The bytes are one class and no other, with a main, and the text is the lines of its least set: exactly
+-- them, sorted and none twice; and whatever run the class has, each of its calls has its line.
 pub record IsCallGraph (name bytes text : List ℕ) : Type 0 where
   pub class : StaticClass
   pub is_class : IsStaticClass name bytes class
   pub only : (other : StaticClass) → IsStaticClass name bytes other → other ≡ class
+  pub main : (place : ℕ) × IsMain class place
   pub set : ℕ → Bool
   pub least : IsLeast class set
   pub lines : List (List ℕ)

@@ -1,2 +1,7 @@
 //! The commands of averroes.
 #![tactic(auto)]
+
+mod handing;
+mod status;
+
+pub use status::{Answer, Status};

@@ -1,0 +1,122 @@
+-- Handing a text to a sink in pieces: what holds between two pieces, and how pieces join.
+use Rattle.std.proofs.Common.{◌≡◌, ℕ, ◌≤◌, List, [], ◌++◌, take, drop, Option, Some, None, Result, Ok, Err, refl, sym, ap, ◌∙◌, subst, append_assoc, arith, inl, inr}
+use Rattle.std.specs.Prelude.{option_map}
+use Rattle.std.proofs.lemmas.List.{append-nil, take-append-drop}
+use Rattle.jv_host.specs.declared.sink.SinkFault.{SinkFault}
+use Rattle.jv_host.specs.declared.sink.SinkFault.TheVariants.{Failed, Memory}
+use Rattle.jv_host.specs.Counts.{Rises}
+use Rattle.jv_host.specs.SinkAnswer.{OnSinkFailed, OnSinkLacking}
+use Rattle.av_cli.specs.Handing.{SinkState, Takes, NeverFalls, Handed}
+
+-- a front of the bytes was taken, and this is the rest
+pub record IsUnderway (old new : SinkState) (bytes rest : List ℕ) : Type 0 where
+  pub front : List ℕ
+  pub parts : bytes ≡ front ++ rest
+  pub takes : Takes old new front
+  pub never_falls : NeverFalls old new
+
+option_map-nil : (o : Option (List ℕ)) → o ≡ option_map (λ before. before ++ []) o
+option_map-nil None = refl
+option_map-nil (Some x) = ap Some (sym (append-nil x))
+
+option_map-append : (o : Option (List ℕ)) (x y : List ℕ) → option_map (λ before. before ++ y) (option_map (λ before. before ++ x) o) ≡ option_map (λ before. before ++ (x ++ y)) o
+option_map-append None x y = refl
+option_map-append (Some o) x y = ap Some (append_assoc o x y)
+
+pub Takes-nil : (s t : SinkState) → t.taken ≡ s.taken → Takes s t []
+Takes-nil s t e = e ∙ option_map-nil s.taken
+
+pub Takes-then : (a b c : SinkState) (x y : List ℕ) → Takes a b x → Takes b c y → Takes a c (x ++ y)
+Takes-then a b c x y p q = q ∙ ap (option_map (λ before. before ++ y)) p ∙ option_map-append a.taken x y
+
+pub NeverFalls-then : (a b c : SinkState) → NeverFalls a b → NeverFalls b c → NeverFalls a c
+NeverFalls-then a b c p q = record { faults = omega (arith, p.faults, q.faults); lacks = omega (arith, p.lacks, q.lacks) }
+
+pub Rises-after : (a b c : ℕ) → a ≤ b → Rises b c → Rises a c
+Rises-after a b c le (inl lt) = inl (omega arith)
+Rises-after a b c le (inr e) = inr e
+
+-- all of a text was taken
+pub record IsTaken (old new : SinkState) (text : List ℕ) : Type 0 where
+  pub takes : Takes old new text
+  pub never_falls : NeverFalls old new
+
+pub taken_nothing : (s : SinkState) → IsTaken s s []
+taken_nothing s = record { takes = Takes-nil s s refl; never_falls = record { faults = omega arith; lacks = omega arith } }
+
+pub from_handed : (u : Unit {0}) (a b : SinkState) (x : List ℕ) → Handed (Ok u) a b x → IsTaken a b x
+from_handed u a b x h = record { takes = h.whole; never_falls = h.never_falls }
+
+pub is_handed : (a b : SinkState) (x : List ℕ) → IsTaken a b x → Handed (Ok tt) a b x
+is_handed a b x t = record { whole = t.takes; front = tt; failed = tt; lacking = tt; never_falls = t.never_falls }
+
+pub underway : (s : SinkState) (bytes : List ℕ) → IsUnderway s s bytes bytes
+underway s bytes = record { front = []; parts = refl; takes = Takes-nil s s refl; never_falls = record { faults = omega arith; lacks = omega arith } }
+
+pub goes_on : (a b c : SinkState) (bytes rest : List ℕ) (count : ℕ) → IsUnderway a b bytes rest → Takes b c (take count rest) → NeverFalls b c → IsUnderway a c bytes (drop count rest)
+goes_on a b c bytes rest count u t n = record {
+  front = u.front ++ take count rest;
+  parts = u.parts ∙ ap (λ (r : List ℕ). u.front ++ r) (sym (take-append-drop count rest)) ∙ sym (append_assoc u.front (take count rest) (drop count rest));
+  takes = Takes-then a b c u.front (take count rest) u.takes t;
+  never_falls = NeverFalls-then a b c u.never_falls n;
+}
+
+pub is_whole : (a b : SinkState) (bytes : List ℕ) → IsUnderway a b bytes [] → Handed (Ok tt) a b bytes
+is_whole a b bytes u = record {
+  whole = subst (Takes a b) (sym (append-nil u.front) ∙ sym u.parts) u.takes;
+  front = tt;
+  failed = tt;
+  lacking = tt;
+  never_falls = u.never_falls;
+}
+
+-- what a refused call leaves
+pub record IsRefused (e : SinkFault) (old new : SinkState) : Type 0 where
+  pub kept : new.taken ≡ old.taken
+  pub failed : OnSinkFailed {T = Unit {0}} (Err e) (Rises old.faults new.faults)
+  pub lacking : OnSinkLacking {T = Unit {0}} (Err e) (Rises old.lacks new.lacks)
+  pub never_falls : NeverFalls old new
+
+raises : (e : SinkFault) (a b c : SinkState) → NeverFalls a b → OnSinkFailed {T = Unit {0}} (Err e) (Rises b.faults c.faults) → OnSinkFailed {T = Unit {0}} (Err e) (Rises a.faults c.faults)
+raises Failed a b c n r = Rises-after _ _ _ n.faults r
+raises Memory a b c n r = tt
+
+lacks : (e : SinkFault) (a b c : SinkState) → NeverFalls a b → OnSinkLacking {T = Unit {0}} (Err e) (Rises b.lacks c.lacks) → OnSinkLacking {T = Unit {0}} (Err e) (Rises a.lacks c.lacks)
+lacks Failed a b c n r = tt
+lacks Memory a b c n r = Rises-after _ _ _ n.lacks r
+
+pub is_cut_off : (e : SinkFault) (a b c : SinkState) (bytes rest : List ℕ) → IsUnderway a b bytes rest → IsRefused e b c → Handed (Err e) a c bytes
+is_cut_off e a b c bytes rest u r = record {
+  whole = tt;
+  front = (u.front, rest, u.parts, r.kept ∙ u.takes);
+  failed = raises e a b c u.never_falls r.failed;
+  lacking = lacks e a b c u.never_falls r.lacking;
+  never_falls = NeverFalls-then a b c u.never_falls r.never_falls;
+}
+
+pub IsTaken-then : (a b c : SinkState) (x y : List ℕ) → IsTaken a b x → IsTaken b c y → IsTaken a c (x ++ y)
+IsTaken-then a b c x y p q = record { takes = Takes-then a b c x y p.takes q.takes; never_falls = NeverFalls-then a b c p.never_falls q.never_falls }
+
+-- a text after one that was handed over whole
+pub Handed-then : (r : Result (Unit {0}) SinkFault) (a b c : SinkState) (x y : List ℕ) → IsTaken a b x → Handed r b c y → Handed r a c (x ++ y)
+Handed-then r a b c x y p h = after r a b c x y p.takes p.never_falls h
+  where
+    after : (r : Result (Unit {0}) SinkFault) (a b c : SinkState) (x y : List ℕ) → Takes a b x → NeverFalls a b → Handed r b c y → Handed r a c (x ++ y)
+    after (Ok u) a b c x y t n h = record { whole = Takes-then a b c x y t h.whole; front = tt; failed = tt; lacking = tt; never_falls = NeverFalls-then a b c n h.never_falls }
+    after (Err e) a b c x y t n h = record {
+      whole = tt;
+      front = (x ++ h.front.0, h.front.1, ap (λ (r : List ℕ). x ++ r) h.front.2 ∙ sym (append_assoc x h.front.0 h.front.1), Takes-then a b c x h.front.0 t h.front.3);
+      failed = raises e a b c n h.failed;
+      lacking = lacks e a b c n h.lacking;
+      never_falls = NeverFalls-then a b c n h.never_falls;
+    }
+
+-- where a text was cut off, so is one that begins with it
+pub Handed-cut : (e : SinkFault) (a b : SinkState) (x y : List ℕ) → Handed (Err e) a b x → Handed (Err e) a b (x ++ y)
+Handed-cut e a b x y h = record {
+  whole = tt;
+  front = (h.front.0, h.front.1 ++ y, ap (λ (r : List ℕ). r ++ y) h.front.2 ∙ append_assoc h.front.0 h.front.1 y, h.front.3);
+  failed = h.failed;
+  lacking = h.lacking;
+  never_falls = h.never_falls;
+}

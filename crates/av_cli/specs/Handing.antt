@@ -1,0 +1,33 @@
+-- Texts handed to a sink: what it has taken afterwards, and how its counts moved.
+use Rattle.std.specs.Prelude.{◌≡◌, ◌≤◌, ℕ, List, ◌++◌, Option, Result, OnOk, OnErr, option_map}
+use Rattle.jv_host.specs.declared.sink.SinkFault.{SinkFault}
+use Rattle.jv_host.specs.Counts.{Rises}
+use Rattle.jv_host.specs.SinkAnswer.{OnSinkFailed, OnSinkLacking}
+
+-- what is known of a sink: what it has taken, where it tells that, and its counts
+pub record SinkState : Type 0 where
+  pub taken : Option (List ℕ)
+  pub faults : ℕ
+  pub lacks : ℕ
+
+-- it has taken these bytes more
+abbrev pub Takes : SinkState → SinkState → List ℕ → Type 0
+Takes old new text = new.taken ≡ option_map (λ before. before ++ text) old.taken
+
+-- it has taken a front of them more
+abbrev pub TakesFront : SinkState → SinkState → List ℕ → Type 0
+TakesFront old new text = (front : List ℕ) × (rest : List ℕ) × (text ≡ front ++ rest) × Takes old new front
+
+-- No count has fallen.
+pub record NeverFalls (old new : SinkState) : Type 0 where
+  pub faults : old.faults ≤ new.faults
+  pub lacks : old.lacks ≤ new.lacks
+
+-- A text was handed over: all of it where the answer is Ok. Otherwise a front of it, and the count of the
+-- fault that is answered has risen.
+pub record Handed (result : Result (Unit {0}) SinkFault) (old new : SinkState) (text : List ℕ) : Type 0 where
+  pub whole : OnOk result (Takes old new text)
+  pub front : OnErr result (TakesFront old new text)
+  pub failed : OnSinkFailed result (Rises old.faults new.faults)
+  pub lacking : OnSinkLacking result (Rises old.lacks new.lacks)
+  pub never_falls : NeverFalls old new

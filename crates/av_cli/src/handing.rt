@@ -1,0 +1,47 @@
+ghost use Rattle.std.specs.Prelude.{◌≡◌, ◌++◌};
+ghost use Rattle.jv_bytes.specs.Shown.{shown_text};
+ghost use Rattle.av_cli.specs.Handing.{Handed};
+
+use jv_bytes::ShownByte;
+use jv_host::{Sink, SinkFault};
+
+/// Hands a whole text to a sink, in as many calls as the sink wants. This takes no memory.
+pub fn write_whole<O: Sink>(out: &mut O, bytes: &[u8]) -> Result<(), SinkFault>
+    ensures { Handed result (record { taken = O.taken out.old; faults = O.faults out.old; lacks = O.lacks out.old })
+        (record { taken = O.taken out.new; faults = O.faults out.new; lacks = O.lacks out.new }) bytes.now }
+{
+    let mut rest = bytes;
+    while !rest.is_empty() {
+        let count = out.write(rest)?;
+        let (_, after) = rest.split_at(count);
+        rest = after;
+    }
+    Ok(())
+}
+
+/// Hands the shown form of a text to a sink. This takes no memory.
+pub fn write_shown<O: Sink>(out: &mut O, text: &[u8]) -> Result<(), SinkFault>
+    ensures { Handed result (record { taken = O.taken out.old; faults = O.faults out.old; lacks = O.lacks out.old })
+        (record { taken = O.taken out.new; faults = O.faults out.new; lacks = O.lacks out.new }) (shown_text text.now) }
+{
+    for byte in text {
+        write_whole(out, ShownByte::new(*byte).as_slice())?;
+    }
+    Ok(())
+}
+
+/// Hands a line to a sink that has a shown text between two plain ones. This takes no memory.
+pub fn write_about<O: Sink>(
+    out: &mut O,
+    before: &[u8],
+    text: &[u8],
+    after: &[u8],
+) -> Result<(), SinkFault>
+    ensures { Handed result (record { taken = O.taken out.old; faults = O.faults out.old; lacks = O.lacks out.old })
+        (record { taken = O.taken out.new; faults = O.faults out.new; lacks = O.lacks out.new })
+        (before.now ++ (shown_text text.now ++ after.now)) }
+{
+    write_whole(out, before)?;
+    write_shown(out, text)?;
+    write_whole(out, after)
+}

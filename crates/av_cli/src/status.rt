@@ -1,0 +1,77 @@
+ghost use Rattle.std.specs.Prelude.{◌≡◌};
+ghost use Rattle.av_cli.specs.Answers.{status_of, code_of};
+
+/// How the program ended, as its caller sees it.
+#[derive(Clone, Copy, Debug, PartialEq, Eq)]
+pub enum Status {
+    /// All was written.
+    Done,
+    /// The input is refused by a rule.
+    Refused,
+    /// The words are no command.
+    Usage,
+    /// The host failed to read.
+    ReadFault,
+    /// The host or the printed output failed to write.
+    WriteFault,
+    /// A quantity passes its limit.
+    Limit,
+    /// Memory is wanting.
+    Memory,
+}
+
+impl Status {
+    /// The number with which the process ends.
+    pub fn code(self) -> u8
+        ensures { result ≡ code_of self }
+    {
+        match self {
+            Status::Done => 0,
+            Status::Refused => 1,
+            Status::Usage => 2,
+            Status::ReadFault => 3,
+            Status::WriteFault => 4,
+            Status::Limit => 5,
+            Status::Memory => 6,
+        }
+    }
+}
+
+/// Why the command `calls` ended.
+#[derive(Clone, Copy, Debug, PartialEq, Eq)]
+pub enum Answer {
+    /// All lines were printed.
+    Printed,
+    /// The words are no command.
+    Misused,
+    /// The host failed to read the file.
+    Unreadable,
+    /// There is no such file.
+    NoFile,
+    /// The bytes aren't of the form.
+    OutsideForm,
+    /// The class has no public static `main` of its own.
+    NoMain,
+    /// The printed output failed to take the lines.
+    Unwritable,
+    /// Memory is wanting.
+    OutOfMemory,
+}
+
+impl Answer {
+    /// The status of this answer.
+    pub fn status(self) -> Status
+        ensures { result ≡ status_of self }
+    {
+        match self {
+            Answer::Printed => Status::Done,
+            Answer::Misused => Status::Usage,
+            Answer::Unreadable => Status::ReadFault,
+            Answer::NoFile => Status::Refused,
+            Answer::OutsideForm => Status::Refused,
+            Answer::NoMain => Status::Refused,
+            Answer::Unwritable => Status::WriteFault,
+            Answer::OutOfMemory => Status::Memory,
+        }
+    }
+}
