@@ -1,11 +1,12 @@
 -- Handing a text to a sink in pieces: what holds between two pieces, and how pieces join.
-use Rattle.std.proofs.Common.{◌≡◌, ℕ, ◌≤◌, List, [], ◌++◌, take, drop, Option, Some, None, Result, Ok, Err, refl, sym, ap, ◌∙◌, subst, append_assoc, arith, inl, inr}
+use Rattle.std.proofs.Common.{◌∷◌, ◌≡◌, ℕ, ◌≤◌, List, [], ◌++◌, take, drop, Option, Some, None, Result, Ok, Err, refl, sym, ap, ◌∙◌, subst, append_assoc, arith, inl, inr}
 use Rattle.std.specs.Prelude.{option_map}
 use Rattle.std.proofs.lemmas.List.{append-nil, take-append-drop}
 use Rattle.jv_host.specs.declared.sink.SinkFault.{SinkFault}
 use Rattle.jv_host.specs.declared.sink.SinkFault.TheVariants.{Failed, Memory}
 use Rattle.jv_host.specs.Counts.{Rises}
 use Rattle.jv_host.specs.SinkAnswer.{OnSinkFailed, OnSinkLacking}
+use Rattle.av_cli.specs.Lines.{text_of_lines}
 use Rattle.av_cli.specs.Handing.{SinkState, Takes, NeverFalls, Handed}
 
 -- a front of the bytes was taken, and this is the rest
@@ -120,3 +121,45 @@ Handed-cut e a b x y h = record {
   lacking = h.lacking;
   never_falls = h.never_falls;
 }
+
+-- a part of a text was taken, and this part is left
+pub record IsPartTaken (old new : SinkState) (text rest : List ℕ) : Type 0 where
+  pub done : List ℕ
+  pub parts : text ≡ done ++ rest
+  pub taken : IsTaken old new done
+
+pub part_nothing : (s : SinkState) (text : List ℕ) → IsPartTaken s s text text
+part_nothing s text = record { done = []; parts = refl; taken = taken_nothing s }
+
+-- one more part is taken
+pub part_more : (a b c : SinkState) (text x rest : List ℕ) → IsPartTaken a b text (x ++ rest) → IsTaken b c x → IsPartTaken a c text rest
+part_more a b c text x rest p t = record {
+  done = p.done ++ x;
+  parts = p.parts ∙ sym (append_assoc p.done x rest);
+  taken = IsTaken-then a b c p.done x p.taken t;
+}
+
+-- one more part is cut off
+pub part_cut : (e : SinkFault) (a b c : SinkState) (text x rest : List ℕ) → IsPartTaken a b text (x ++ rest) → Handed (Err e) b c x → Handed (Err e) a c text
+part_cut e a b c text x rest p h =
+    subst (Handed (Err e) a c) (sym p.parts) (Handed-then (Err e) a b c p.done (x ++ rest) p.taken (Handed-cut e b c x rest h))
+
+-- no part is left
+pub part_all : (a b : SinkState) (text : List ℕ) → IsPartTaken a b text [] → Handed (Ok tt) a b text
+part_all a b text p = subst (Handed (Ok tt) a b) (sym (append-nil p.done) ∙ sym p.parts) (is_handed a b p.done p.taken)
+
+-- a text in other words
+pub Handed-is : (r : Result (Unit {0}) SinkFault) (a b : SinkState) (x y : List ℕ) → x ≡ y → Handed r a b x → Handed r a b y
+Handed-is r a b x y e h = subst (Handed r a b) e h
+
+-- the first line that is left is taken, and then the others are left
+pub line_more : (a b c : SinkState) (text line : List ℕ) (left rest : List (List ℕ)) → left ≡ line ∷ rest → IsPartTaken a b text (text_of_lines left)
+    → IsTaken b c (line ++ 10 ∷ []) → IsPartTaken a c text (text_of_lines rest)
+line_more a b c text line left rest e p t =
+    part_more a b c text (line ++ 10 ∷ []) (text_of_lines rest) (subst (λ (ls : List (List ℕ)). IsPartTaken a b text (text_of_lines ls)) e p) t
+
+-- the first line that is left is cut off
+pub line_cut : (e : SinkFault) (a b c : SinkState) (text line : List ℕ) (left rest : List (List ℕ)) → left ≡ line ∷ rest → IsPartTaken a b text (text_of_lines left)
+    → Handed (Err e) b c (line ++ 10 ∷ []) → Handed (Err e) a c text
+line_cut e a b c text line left rest is p h =
+    part_cut e a b c text (line ++ 10 ∷ []) (text_of_lines rest) (subst (λ (ls : List (List ℕ)). IsPartTaken a b text (text_of_lines ls)) is p) h

@@ -4,3 +4,4 @@ pub mod Lines
 pub mod Promise
 pub mod Answers
 pub mod Handing
+pub mod Ending

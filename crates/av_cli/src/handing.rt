@@ -1,9 +1,12 @@
-ghost use Rattle.std.specs.Prelude.{◌≡◌, ◌++◌};
+ghost use Rattle.std.specs.Prelude.{◌≡◌, ◌∷◌, [], ◌++◌};
+ghost use Rattle.av_cli.specs.Lines.{text_of_lines};
 ghost use Rattle.jv_bytes.specs.Shown.{shown_text};
 ghost use Rattle.av_cli.specs.Handing.{Handed};
 
 use jv_bytes::ShownByte;
 use jv_host::{Sink, SinkFault};
+use jv_types::Name;
+use std::collections::BTreeSet;
 
 /// Hands a whole text to a sink, in as many calls as the sink wants. This takes no memory.
 pub fn write_whole<O: Sink>(out: &mut O, bytes: &[u8]) -> Result<(), SinkFault>
@@ -44,4 +47,25 @@ pub fn write_about<O: Sink>(
     write_whole(out, before)?;
     write_shown(out, text)?;
     write_whole(out, after)
+}
+
+/// Hands a line to a sink, with a newline behind it. This takes no memory.
+fn write_line<O: Sink>(out: &mut O, line: &[u8]) -> Result<(), SinkFault>
+    ensures { Handed result (record { taken = O.taken out.old; faults = O.faults out.old; lacks = O.lacks out.old })
+        (record { taken = O.taken out.new; faults = O.faults out.new; lacks = O.lacks out.new }) (line.now ++ 10 ∷ []) }
+{
+    write_whole(out, line)?;
+    write_whole(out, b"\n")
+}
+
+/// Hands lines to a sink in their order, each with a newline. This takes no memory.
+pub fn write_lines<O: Sink>(out: &mut O, lines: BTreeSet<Name>) -> Result<(), SinkFault>
+    ensures { Handed result (record { taken = O.taken out.old; faults = O.faults out.old; lacks = O.lacks out.old })
+        (record { taken = O.taken out.new; faults = O.faults out.new; lacks = O.lacks out.new }) (text_of_lines lines.keys) }
+{
+    let mut left = lines;
+    while let Some(line) = left.pop_first() {
+        write_line(out, line.as_slice())?;
+    }
+    Ok(())
 }

@@ -2,6 +2,7 @@
 #![tactic(auto)]
 
 mod handing;
+mod saying;
 mod status;
 
 pub use status::{Answer, Status};
