@@ -1,10 +1,11 @@
 -- A number has one text of each length, and what is read is what was written.
-use Rattle.std.proofs.Common.{◌≡◌, ℕ, zero, suc, ◌+◌, ◌*◌, ◌^◌, ◌<◌, ◌≤◌, ◌/◌, List, [], ◌∷◌, ◌++◌, length, refl, sym, ap, ◌∙◌, arith}
+use Rattle.std.proofs.Common.{◌≡◌, ℕ, zero, suc, ◌+◌, ◌*◌, ◌^◌, ◌<◌, ◌≤◌, ◌/◌, List, [], ◌∷◌, ◌++◌, length, refl, sym, ap, subst, ◌∙◌, arith}
+use Rattle.std.proofs.lemmas.List.{append_cancel_left}
 use Rattle.std.specs.Int.{byte_at, bytes_high_first}
 use Rattle.std.proofs.lemmas.Nat.{same_from_place, mod_below}
 use Rattle.byteorder.specs.Endian.{big_from}
 use Rattle.byteorder.specs.Numbers.{big_from-cons, big_from-lt, big_from-append, big_number-reads_back, length-bytes_high_first}
-use Rattle.jv_bytes.specs.Numbers.{IsByteString, number_in, number_text}
+use Rattle.jv_bytes.specs.Numbers.{IsByteString, IsNumberText, number_in, number_text}
 
 -- what follows the first byte are bytes
 pub IsByteString-rest : (b : ℕ) (bytes : List ℕ) → IsByteString (b ∷ bytes) → IsByteString bytes
@@ -33,6 +34,10 @@ same_bytes (suc n) (x ∷ xs) (y ∷ ys) la lb ea eb e =
     let parts = same_from_place x (big_from 0 n xs) y (big_from 0 n ys) (256 ^ n) low_x low_y same in
     let rest = same_bytes n xs ys (omega arith) (omega arith) ex ey parts.1 in
     ap (λ (z : ℕ). z ∷ xs) parts.0 ∙ ap (λ (zs : List ℕ). y ∷ zs) rest
+
+-- no byte at all
+pub no_bytes : IsByteString []
+no_bytes i = omega arith
 
 -- a byte of a number is a byte
 byte_at-lt : (k x : ℕ) → byte_at k x < 256
@@ -92,3 +97,32 @@ front_is_text n v bytes front rest len each read parts =
 pub front_is_number : (n v : ℕ) (bytes front rest : List ℕ) → length front ≡ n → v ≡ number_in n front → bytes ≡ front ++ rest → v ≡ number_in n bytes
 front_is_number n v bytes front rest len read parts =
     read ∙ sym (ap (number_in n) parts ∙ number_in-append n front rest (omega arith))
+
+-- these bytes, and no others, are read as the number
+pub number_text-read : (n v : ℕ) → v < 256 ^ n → IsNumberText n (number_text n v) v
+number_text-read n v lt = record {
+  len = length-number_text n v;
+  each = number_text-each n v;
+  read = sym (number_in-append n (number_text n v) [] (omega (arith, length-number_text n v))) ∙ number_in-number_text n v [] lt;
+}
+
+pub number_text-only : (n v : ℕ) (bytes : List ℕ) → IsNumberText n bytes v → bytes ≡ number_text n v
+number_text-only n v bytes h = sym (number_text-number_in n bytes h.len h.each) ∙ ap (number_text n) h.read
+
+pub number_text-fits : (n v : ℕ) (bytes : List ℕ) → IsNumberText n bytes v → v < 256 ^ n
+number_text-fits n v bytes h = subst (λ (x : ℕ). x < 256 ^ n) h.read (number_in-lt n bytes h.each)
+
+pub numbers_one : (n v : ℕ) (a b : List ℕ) → IsNumberText n a v → IsNumberText n b v → a ≡ b
+numbers_one n v a b p q = one_number_text n a b p.len q.len p.each q.each (p.read ∙ sym q.read)
+
+-- two readings of one text agree
+pub number_fronts : (n a b : ℕ) (x y : List ℕ) → a < 256 ^ n → b < 256 ^ n → number_text n a ++ x ≡ number_text n b ++ y → (a ≡ b) × (x ≡ y)
+number_fronts n a b x y la lb e =
+    let same : a ≡ b = sym (number_in-number_text n a x la) ∙ ap (number_in n) e ∙ number_in-number_text n b y lb in
+    let fronts : number_text n b ++ x ≡ number_text n b ++ y = ap (λ (k : ℕ). number_text n k ++ x) (sym same) ∙ e in
+    (same, append_cancel_left (number_text n b) x y fronts)
+
+-- the numbers that are read are those of the crate byteorder
+pub number_in-is : (n : ℕ) (bytes : List ℕ) → number_in n bytes ≡ big_from 0 n bytes
+unfolding number_in
+number_in-is n bytes = refl

@@ -1,5 +1,5 @@
 -- Modified UTF-8 (JVMS 4.4.7): a text is a list of UTF-16 units, and each unit has one spelling.
-use Rattle.std.specs.Prelude.{◌≡◌, ◌<◌, ◌≤◌, ◌+◌, ◌*◌, ◌⊎◌, ℕ, List, [], ◌∷◌, ◌++◌}
+use Rattle.std.specs.Prelude.{◌≡◌, ◌<◌, ◌≤◌, ◌+◌, ◌*◌, ◌-◌, ◌⊎◌, ℕ, List, [], ◌∷◌, ◌++◌}
 
 -- a byte that goes on with a unit: its high bits are 10
 abbrev pub GoesOn : ℕ → Type 0
@@ -11,9 +11,9 @@ abbrev pub IsUnitText : List ℕ → ℕ → Type 0
 IsUnitText [] unit = ⊥
 IsUnitText (a ∷ []) unit = (1 ≤ a) × (a < 128) × (unit ≡ a)
 IsUnitText (a ∷ b ∷ []) unit =
-    (192 ≤ a) × (a < 224) × GoesOn b × (unit + 12416 ≡ 64 * a + b) × ((unit ≡ 0) ⊎ (128 ≤ unit))
+    (192 ≤ a) × (a < 224) × GoesOn b × (unit ≡ 64 * (a - 192) + (b - 128)) × ((unit ≡ 0) ⊎ (128 ≤ unit))
 IsUnitText (a ∷ b ∷ c ∷ []) unit =
-    (224 ≤ a) × (a < 240) × GoesOn b × GoesOn c × (unit + 925824 ≡ 4096 * a + 64 * b + c) × (2048 ≤ unit)
+    (224 ≤ a) × (a < 240) × GoesOn b × GoesOn c × (unit ≡ 4096 * (a - 224) + 64 * (b - 128) + (c - 128)) × (2048 ≤ unit)
 IsUnitText (a ∷ b ∷ c ∷ d ∷ more) unit = ⊥
 
 -- the bytes begin with the spelling of this unit, and go on with the rest

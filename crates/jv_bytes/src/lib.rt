@@ -2,9 +2,15 @@
 #![tactic(auto)]
 
 mod cursor;
+pub mod laws;
 mod showing;
+mod utf8;
 mod writer;
 
 pub use cursor::Cursor;
 pub use showing::{ShownByte, shown};
+pub use utf8::{BadText, text_of, units_of};
 pub use writer::Writer;
+
+#[cfg(test)]
+mod tests;
