@@ -1,1 +1,3 @@
+pub mod Numbers
 pub mod Shown
+pub mod Utf8
