@@ -1,2 +1,5 @@
 pub mod Sinks
 pub mod ShownText
+pub mod Concluding
+pub mod Exactness
+pub mod Requests

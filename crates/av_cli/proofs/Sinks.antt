@@ -7,6 +7,7 @@ use Rattle.jv_host.specs.declared.sink.SinkFault.TheVariants.{Failed, Memory}
 use Rattle.jv_host.specs.Counts.{Rises}
 use Rattle.jv_host.specs.SinkAnswer.{OnSinkFailed, OnSinkLacking}
 use Rattle.av_cli.specs.Lines.{text_of_lines}
+use Rattle.av_cli.specs.Ending.{Says}
 use Rattle.av_cli.specs.Handing.{SinkState, Takes, NeverFalls, Handed}
 
 -- a front of the bytes was taken, and this is the rest
@@ -163,3 +164,9 @@ pub line_cut : (e : SinkFault) (a b c : SinkState) (text line : List ℕ) (left 
     → Handed (Err e) b c (line ++ 10 ∷ []) → Handed (Err e) a c text
 line_cut e a b c text line left rest is p h =
     part_cut e a b c text (line ++ 10 ∷ []) (text_of_lines rest) (subst (λ (ls : List (List ℕ)). IsPartTaken a b text (text_of_lines ls)) is p) h
+
+-- what a sink was told, whether or not it took all of it
+pub says : (r : Result (Unit {0}) SinkFault) (a b : SinkState) (line : List ℕ) → Handed r a b line → Says a b line
+says (Ok u) a b line h = inl h.whole
+says (Err Failed) a b line h = inr (h.front, inl h.failed)
+says (Err Memory) a b line h = inr (h.front, inr h.lacking)

@@ -30,6 +30,10 @@ status_of OutOfMemory = Memory
 abbrev pub file_name : List ℕ → List ℕ
 file_name name = name ++ codes ".class"
 
+-- as many bytes as show whether a file is too long for a class file
+unfoldable pub file_most : ℕ
+file_most = 16777217
+
 -- the words of the command, with a root and a class's name
 abbrev pub request : List ℕ → List ℕ → List (List ℕ)
 request root name = codes "calls" ∷ root ∷ name ∷ []

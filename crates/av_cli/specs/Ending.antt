@@ -37,31 +37,47 @@ IsInForm name bytes = (class : StaticClass) × IsStaticClass name bytes class
 abbrev pub DeclaresMain : StaticClass → Type 0
 DeclaresMain class = (place : ℕ) × IsMain class place
 
+-- the bytes are a class, and it declares no such main
+abbrev pub LacksMain : List ℕ → List ℕ → Type 0
+LacksMain name bytes = IsInForm name bytes × ((class : StaticClass) → IsStaticClass name bytes class → ¬ DeclaresMain class)
+
 abbrev pub NothingPrinted : Outside → Type 0
 NothingPrinted o = o.out_after ≡ o.out_before
 
+-- what an answer says of the bytes of the class's file, and of the printed output before and after
+abbrev pub Prints : List ℕ → List ℕ → SinkState → SinkState → Answer → Type 0
+-- the lines of the class were printed, and nothing else
+Prints name bytes old new Printed = (text : List ℕ) × IsCallGraph name bytes text × Takes old new text
+Prints name bytes old new OutsideForm = (¬ IsInForm name bytes) × (new ≡ old)
+Prints name bytes old new NoMain = LacksMain name bytes × (new ≡ old)
+-- the printed output failed behind a front of the lines
+Prints name bytes old new Unwritable =
+    (text : List ℕ) × IsCallGraph name bytes text × TakesFront old new text × Rises old.faults new.faults
+-- nothing was printed, or a front of the lines
+Prints name bytes old new OutOfMemory = (new ≡ old) ⊎ ((text : List ℕ) × IsCallGraph name bytes text × TakesFront old new text)
+-- the other answers say nothing of bytes
+Prints name bytes old new Misused = ⊥
+Prints name bytes old new Unreadable = ⊥
+Prints name bytes old new NoFile = ⊥
+
+-- an answer about the bytes of the file
+abbrev pub ConcludesBytes : Outside → List ℕ → List ℕ → Answer → Type 0
+ConcludesBytes o root name answer =
+    (bytes : List ℕ) × HasFile o root name bytes × Prints name bytes o.out_before o.out_after answer
+
 -- what an answer says, where the words name a root and a class
 abbrev pub Concludes : Outside → List ℕ → List ℕ → Answer → Type 0
--- the lines of the class were printed, and nothing else
-Concludes o root name Printed =
-    (bytes : List ℕ) × (text : List ℕ) × HasFile o root name bytes × IsCallGraph name bytes text × Takes o.out_before o.out_after text
-Concludes o root name Misused = ⊥
+Concludes o root name Printed = ConcludesBytes o root name Printed
+Concludes o root name OutsideForm = ConcludesBytes o root name OutsideForm
+Concludes o root name NoMain = ConcludesBytes o root name NoMain
+Concludes o root name Unwritable = ConcludesBytes o root name Unwritable
+-- memory may be wanting before the file is read, too
+Concludes o root name OutOfMemory = NothingPrinted o ⊎ ConcludesBytes o root name OutOfMemory
 -- the read of that file failed
 Concludes o root name Unreadable =
     Rises o.reads_before o.reads_after × IfSome o.failed (λ call. call ≡ Some (ReadFile root (file_name name))) × NothingPrinted o
-Concludes o root name NoFile =
-    IfSome o.files (λ told. bytes_of told root (file_name name) ≡ None) × NothingPrinted o
-Concludes o root name OutsideForm =
-    (bytes : List ℕ) × HasFile o root name bytes × ¬ IsInForm name bytes × NothingPrinted o
-Concludes o root name NoMain =
-    (bytes : List ℕ) × (class : StaticClass) × HasFile o root name bytes × IsStaticClass name bytes class × ¬ DeclaresMain class × NothingPrinted o
--- the printed output failed behind a front of the lines
-Concludes o root name Unwritable =
-    (bytes : List ℕ) × (text : List ℕ) × HasFile o root name bytes × IsCallGraph name bytes text
-    × TakesFront o.out_before o.out_after text × Rises o.out_before.faults o.out_after.faults
--- nothing was printed, or a front of the lines
-Concludes o root name OutOfMemory =
-    NothingPrinted o ⊎ ((bytes : List ℕ) × (text : List ℕ) × HasFile o root name bytes × IsCallGraph name bytes text × TakesFront o.out_before o.out_after text)
+Concludes o root name NoFile = IfSome o.files (λ told. bytes_of told root (file_name name) ≡ None) × NothingPrinted o
+Concludes o root name Misused = ⊥
 
 -- the words are no command
 abbrev pub AreMisused : List (List ℕ) → Type 0
@@ -83,8 +99,8 @@ IsDue words told OutsideForm =
     (root : List ℕ) × (name : List ℕ) × (bytes : List ℕ) × (words ≡ request root name)
     × (bytes_of told root (file_name name) ≡ Some bytes) × ¬ IsInForm name bytes
 IsDue words told NoMain =
-    (root : List ℕ) × (name : List ℕ) × (bytes : List ℕ) × (class : StaticClass) × (words ≡ request root name)
-    × (bytes_of told root (file_name name) ≡ Some bytes) × IsStaticClass name bytes class × ¬ DeclaresMain class
+    (root : List ℕ) × (name : List ℕ) × (bytes : List ℕ) × (words ≡ request root name)
+    × (bytes_of told root (file_name name) ≡ Some bytes) × LacksMain name bytes
 IsDue words told Unreadable = ⊥
 IsDue words told Unwritable = ⊥
 IsDue words told OutOfMemory = ⊥

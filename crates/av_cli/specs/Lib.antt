@@ -5,3 +5,4 @@ pub mod Promise
 pub mod Answers
 pub mod Handing
 pub mod Ending
+pub mod Graphs

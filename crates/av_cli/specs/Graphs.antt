@@ -1,0 +1,14 @@
+-- What the search for a class's lines answers.
+use Rattle.std.specs.Prelude.{ℕ, List, Result, Ok, Err}
+use Rattle.std.specs.BTreeSet.{BTreeSet}
+use Rattle.av_cli.specs.declared.graph.GraphError.{GraphError}
+use Rattle.av_cli.specs.declared.graph.GraphError.TheVariants.{Memory, OutsideForm, NoMain}
+use Rattle.av_cli.specs.Lines.{text_of_lines}
+use Rattle.av_cli.specs.Promise.{IsCallGraph}
+use Rattle.av_cli.specs.Ending.{IsInForm, LacksMain}
+
+abbrev pub IsGraphOf : List ℕ → List ℕ → Result (BTreeSet (List ℕ)) GraphError → Type 0
+IsGraphOf name bytes (Ok lines) = IsCallGraph name bytes (text_of_lines lines.keys)
+IsGraphOf name bytes (Err OutsideForm) = ¬ IsInForm name bytes
+IsGraphOf name bytes (Err NoMain) = LacksMain name bytes
+IsGraphOf name bytes (Err Memory) = Unit {0}

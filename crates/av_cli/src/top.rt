@@ -1,0 +1,51 @@
+ghost use Rattle.std.specs.Prelude.{◌≡◌, ◌⊎◌, map};
+ghost use Rattle.av_cli.specs.Ending.{Ends, CallsOnlyRead};
+
+use crate::command::print_class;
+use crate::saying::write_answer;
+use crate::status::{Answer, Status};
+use crate::words::request_of;
+use jv_host::{Host, Sink};
+use std::alloc::Global;
+
+/// Runs the command that the words name. `calls ROOT NAME` reads `NAME.class` under ROOT and prints
+/// the calls of that class to `out`, a line each, sorted by bytes. A status that isn't `Done` writes one
+/// line to `err`.
+pub fn run<H: Host, O: Sink, E: Sink>(
+    alloc: Global,
+    words: &[&str],
+    host: &mut H,
+    out: &mut O,
+    err: &mut E,
+) -> Status
+    // The answer: its status, its cause, when it is due, and the line that err gets.
+    ensures ends { Ends (map (λ w. w.now) words.now) (record {
+      files = H.files host.old;
+      reads_before = H.read_faults host.old;
+      reads_after = H.read_faults host.new;
+      failed = H.failed host.new;
+      out_before = record { taken = O.taken out.old; faults = O.faults out.old; lacks = O.lacks out.old };
+      out_after = record { taken = O.taken out.new; faults = O.faults out.new; lacks = O.lacks out.new };
+    })
+        (record { taken = E.taken err.old; faults = E.faults err.old; lacks = E.lacks err.old })
+        (record { taken = E.taken err.new; faults = E.faults err.new; lacks = E.lacks err.new }) result }
+    ensures silent_at_done { result ≡ Status.Done → err.new ≡ err.old }
+
+    // The host is left alone, but for the one read.
+    ensures only_read { CallsOnlyRead (map (λ w. w.now) words.now) (H.calls host.old) (H.calls host.new) }
+    ensures files_kept { H.files host.new ≡ H.files host.old }
+    ensures written_kept { H.written host.new ≡ H.written host.old }
+    ensures write_faults_kept { H.write_faults host.new ≡ H.write_faults host.old }
+{
+    match request_of(words) {
+        None => {
+            let _ = write_answer(err, Answer::Misused, b"");
+            Status::Usage
+        }
+        Some((root, name)) => {
+            let answer = print_class(alloc, root.as_bytes(), name.as_bytes(), host, out);
+            let _ = write_answer(err, answer, name.as_bytes());
+            answer.status()
+        }
+    }
+}
