@@ -3,6 +3,7 @@
 
 mod number;
 mod outline;
+mod pool;
 mod read_error;
 mod static_class;
 

@@ -1,0 +1,95 @@
+-- Reading the layout of a class file from the front of a list of bytes, part by part: what is kept of the
+-- part and what is left, or nothing where the bytes don't begin with such a part.
+use Rattle.std.specs.Prelude.{◌≡◌, ℕ, zero, suc, ◌-◌, List, [], ◌∷◌, length, codes, Bool, true, false, ◌||◌, ◌==◌, Option, Some, None, is_some, if◌then◌else◌}
+use Rattle.std.specs.List.{slice_get}
+use Rattle.std.specs.Str.{bytes_eq}
+use Rattle.jv_class.specs.declared.outline.Entry.{Entry}
+use Rattle.jv_class.specs.declared.outline.Entry.TheVariants as entry
+use Rattle.jv_class.specs.declared.outline.RawMethod.{RawMethod}
+use Rattle.jv_class.specs.declared.outline.Outline.{Outline}
+use Rattle.jv_class.specs.Layout.{other_width, Attribute}
+use Rattle.jv_class.specs.Reading.{◌>>=◌, u1_at, u2_at, u4_at, bytes_at}
+
+-- ---- the constant pool
+
+-- a length of two bytes, and as many bytes
+unfoldable pub text_at : List ℕ → Option (List ℕ × List ℕ)
+text_at bytes = do
+  len ← u2_at bytes
+  bytes_at len.1 len.0
+
+-- two numbers of two bytes
+unfoldable pub pair_at : List ℕ → Option (ℕ × ℕ × List ℕ)
+pair_at bytes = do
+  first ← u2_at bytes
+  second ← u2_at first.1
+  Some (first.0, second.0, second.1)
+
+-- longs and doubles
+abbrev pub is_wide_tag : ℕ → Bool
+is_wide_tag tag = tag == 5 || tag == 6
+
+-- an item behind its tag: its entry, whether it takes two indices, and what is left
+unfoldable pub other_at : ℕ → List ℕ → Option (Entry × Bool × List ℕ)
+other_at tag bytes = do
+  width ← other_width tag
+  content ← bytes_at bytes width
+  Some (entry.Unused, is_wide_tag tag, content.1)
+
+unfoldable pub utf8_at : List ℕ → Option (Entry × Bool × List ℕ)
+utf8_at bytes = do
+  text ← text_at bytes
+  Some (entry.Utf8 text.0, false, text.1)
+
+unfoldable pub class_at : List ℕ → Option (Entry × Bool × List ℕ)
+class_at bytes = do
+  name ← u2_at bytes
+  Some (entry.Class name.0, false, name.1)
+
+unfoldable pub methodref_at : List ℕ → Option (Entry × Bool × List ℕ)
+methodref_at bytes = do
+  pair ← pair_at bytes
+  Some (entry.Methodref pair.0 pair.1, false, pair.2)
+
+unfoldable pub name_and_type_at : List ℕ → Option (Entry × Bool × List ℕ)
+name_and_type_at bytes = do
+  pair ← pair_at bytes
+  Some (entry.NameAndType pair.0 pair.1, false, pair.2)
+
+unfoldable pub tagged_at : ℕ → List ℕ → Option (Entry × Bool × List ℕ)
+tagged_at tag bytes =
+    if tag == 1 then utf8_at bytes else
+    (if tag == 7 then class_at bytes else
+    (if tag == 10 then methodref_at bytes else
+    (if tag == 12 then name_and_type_at bytes else other_at tag bytes)))
+
+-- an item
+unfoldable pub item_at : List ℕ → Option (Entry × Bool × List ℕ)
+item_at bytes = do
+  tag ← u1_at bytes
+  tagged_at tag.0 tag.1
+
+-- the entry of the next index, which is unused where the item before it takes two
+unfoldable pub slot_at : Bool → List ℕ → Option (Entry × Bool × List ℕ)
+slot_at true bytes = Some (entry.Unused, false, bytes)
+slot_at false bytes = item_at bytes
+
+-- the entries of as many indices, behind an item that takes this one too or doesn't
+unfoldable pub entries_at : ℕ → Bool → List ℕ → Option (List Entry × List ℕ)
+entries_at zero wide bytes = if wide then None else Some ([], bytes)
+entries_at (suc n) wide bytes = do
+  first ← slot_at wide bytes
+  others ← entries_at n first.1 first.2
+  Some (first.0 ∷ others.0, others.1)
+
+-- the entries by index, with nothing at 0
+unfoldable pub indexed_at : ℕ → List ℕ → Option (List Entry × List ℕ)
+indexed_at indices bytes = do
+  entries ← entries_at indices false bytes
+  Some (entry.Unused ∷ entries.0, entries.1)
+
+-- a count, and the entries of the indices below it
+unfoldable pub pool_at : List ℕ → Option (List Entry × List ℕ)
+pool_at bytes = do
+  count ← u2_at bytes
+  if count.0 == 0 then None else indexed_at (count.0 - 1) count.1
