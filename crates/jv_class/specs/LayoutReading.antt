@@ -93,3 +93,106 @@ unfoldable pub pool_at : List ℕ → Option (List Entry × List ℕ)
 pool_at bytes = do
   count ← u2_at bytes
   if count.0 == 0 then None else indexed_at (count.0 - 1) count.1
+
+-- ---- attributes
+
+-- the name's index, the content, and what is left
+unfoldable pub attribute_at : List ℕ → Option (ℕ × List ℕ × List ℕ)
+attribute_at bytes = do
+  name ← u2_at bytes
+  len ← u4_at name.1
+  content ← bytes_at len.1 len.0
+  Some (name.0, content.0, content.1)
+
+-- what is left behind as many attributes
+unfoldable pub behind_at : ℕ → List ℕ → Option (List ℕ)
+behind_at zero bytes = Some bytes
+behind_at (suc n) bytes = do
+  first ← attribute_at bytes
+  behind_at n first.2
+
+-- a count, and as many attributes
+unfoldable pub passed_at : List ℕ → Option (List ℕ)
+passed_at bytes = do
+  count ← u2_at bytes
+  behind_at count.0 count.1
+
+-- the entry is the name of the attribute Code
+unfoldable pub is_code : Option Entry → Bool
+is_code None = false
+is_code (Some (entry.Utf8 text)) = bytes_eq text (codes "Code")
+is_code (Some (entry.Class name)) = false
+is_code (Some (entry.Methodref class name_and_type)) = false
+is_code (Some (entry.NameAndType name desc)) = false
+is_code (Some entry.Unused) = false
+
+-- the content of the Code that was found, behind one attribute more; a second one is none
+unfoldable pub found_at : List Entry → Option (List ℕ) → ℕ → List ℕ → Option (Option (List ℕ))
+found_at pool found name content =
+    if is_code (slice_get pool name) then (if is_some found then None else Some (Some content)) else Some found
+
+-- the same behind as many attributes, and what is left
+unfoldable pub code_at : List Entry → ℕ → Option (List ℕ) → List ℕ → Option (Option (List ℕ) × List ℕ)
+code_at pool zero found bytes = Some (found, bytes)
+code_at pool (suc n) found bytes = do
+  first ← attribute_at bytes
+  next ← found_at pool found first.0 first.1
+  code_at pool n next first.2
+
+-- a count, and as many attributes, one of which is Code, with its content
+unfoldable pub one_code_at : List Entry → List ℕ → Option (List ℕ × List ℕ)
+one_code_at pool bytes = do
+  count ← u2_at bytes
+  found ← code_at pool count.0 None count.1
+  content ← found.0
+  Some (content, found.1)
+
+-- ---- methods
+
+unfoldable pub method_at : List Entry → List ℕ → Option (RawMethod × List ℕ)
+method_at pool bytes = do
+  access ← u2_at bytes
+  names ← pair_at access.1
+  code ← one_code_at pool names.2
+  Some (record { access = record { 0 = access.0 }; name = names.0; desc = names.1; code = code.0 }, code.1)
+
+-- as many methods
+unfoldable pub methods_at : List Entry → ℕ → List ℕ → Option (List RawMethod × List ℕ)
+methods_at pool zero bytes = Some ([], bytes)
+methods_at pool (suc n) bytes = do
+  first ← method_at pool bytes
+  others ← methods_at pool n first.1
+  Some (first.0 ∷ others.0, others.1)
+
+-- a count, and as many methods
+unfoldable pub counted_methods_at : List Entry → List ℕ → Option (List RawMethod × List ℕ)
+counted_methods_at pool bytes = do
+  count ← u2_at bytes
+  methods_at pool count.0 count.1
+
+-- ---- the file
+
+-- the magic number and the versions, of which the major one is kept
+unfoldable pub header_at : List ℕ → Option (ℕ × List ℕ)
+header_at bytes = do
+  magic ← u4_at bytes
+  versions ← (if magic.0 == 0xCAFEBABE then pair_at magic.1 else None)
+  Some (versions.1, versions.2)
+
+-- access flags, this class and the superclass, no interfaces and no fields
+unfoldable pub names_at : List ℕ → Option (ℕ × ℕ × List ℕ)
+names_at bytes = do
+  access ← u2_at bytes
+  names ← pair_at access.1
+  counts ← pair_at names.2
+  if counts.0 == 0 then (if counts.1 == 0 then Some (names.0, names.1, counts.2) else None) else None
+
+-- all of the bytes
+unfoldable pub outline_at : List ℕ → Option Outline
+outline_at bytes = do
+  header ← header_at bytes
+  pool ← pool_at header.1
+  names ← names_at pool.1
+  methods ← counted_methods_at pool.0 names.2
+  rest ← passed_at methods.1
+  if length rest == 0 then Some (record { major = header.0; pool = pool.0; this_class = names.0; super_class = names.1; methods = methods.0 }) else None

@@ -1,6 +1,8 @@
 //! Class files: the form of a class of static methods over words, and its reader.
 #![tactic(auto)]
 
+mod attributes;
+mod methods;
 mod number;
 mod outline;
 mod pool;

@@ -21,7 +21,7 @@ fn read_text(alloc: Global, bytes: &[u8]) -> Result<(Name, &[u8]), ReadError>
 
 /// Two indices, and the bytes after them.
 #[tactic(auto, unfolding(crate::specs::LayoutReading::pair_at))]
-fn read_pair(bytes: &[u8]) -> Result<(u16, u16, &[u8]), ReadError>
+pub fn read_pair(bytes: &[u8]) -> Result<(u16, u16, &[u8]), ReadError>
     ensures { Gives (λ x. (x.0, x.1, x.2.now)) result (pair_at bytes.now) }
 {
     let (first, rest) = read_u2(bytes)?;
