@@ -1,1 +1,2 @@
 pub mod LayoutLoops
+pub mod LayoutFields

@@ -2,6 +2,7 @@
 #![tactic(auto)]
 
 mod attributes;
+mod layout;
 mod methods;
 mod number;
 mod outline;
