@@ -1,2 +1,5 @@
 pub mod LayoutLoops
 pub mod LayoutFields
+pub mod LayoutItems
+pub mod LayoutPool
+pub mod LayoutAttributes
