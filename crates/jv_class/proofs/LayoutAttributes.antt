@@ -1,6 +1,6 @@
 -- Attributes that are passed over are spelled so, and what is spelled so is passed over. Code is found
 -- among them exactly where it is one of them once.
-use Rattle.std.proofs.Common.{◌≡◌, ℕ, zero, suc, ◌^◌, ◌<◌, Bool, true, false, cond, List, [], ◌∷◌, ◌++◌, length, Option, Some, None, is_some, refl, sym, ap, subst, ◌∙◌, ◌⊎◌, inl, inr, append_assoc, arith}
+use Rattle.std.proofs.Common.{◌≡◌, ℕ, zero, suc, true, false, List, [], ◌∷◌, ◌++◌, length, Option, Some, None, refl, sym, ap, subst, ◌∙◌, inl, inr, append_assoc, arith}
 use Rattle.std.specs.Prelude.{codes}
 use Rattle.std.specs.List.{flat_map, slice_get, AllByRecursion}
 use Rattle.std.proofs.lemmas.Bool.{false_from_ne_true}
@@ -12,7 +12,7 @@ use Rattle.jv_class.specs.Layout.{u2, u4, Attribute, attribute_text, IsAttribute
 use Rattle.jv_class.specs.Outlines.{IsNamedCode, HasOneCode}
 use Rattle.jv_class.specs.Reading.{◌>>=◌, u2_at, u4_at, bytes_at}
 use Rattle.jv_class.specs.LayoutReading.{attribute_at, behind_at, passed_at, is_code, found_at, code_at, one_code_at}
-use Rattle.jv_class.proofs.LayoutFields.{IsBytes, bind_some, some_is, Takes, Takes-none, Takes-then, u2_takes, u2_again, u4_takes, u4_again, bytes_take, bytes_again}
+use Rattle.jv_class.proofs.LayoutFields.{IsBytes, bind_some, given_as, some_is, Takes, Takes-none, Takes-then, u2_takes, u2_again, u4_takes, u4_again, bytes_take, bytes_again}
 use Rattle.jv_class.proofs.LayoutItems.{bind_is, chosen}
 
 -- ---- one attribute
@@ -33,7 +33,7 @@ attribute_takes bytes x fits e =
     let both : Takes bytes ((u2 a.0.0 ++ u4 b.0.0) ++ c.0.0) c.0.1 = Takes-then bytes (u2 a.0.0 ++ u4 b.0.0) b.0.1 c.0.0 c.0.1 head u.0 in
     let whole : Takes bytes ((u2 a.0.0 ++ u4 (length c.0.0)) ++ c.0.0) c.0.1 = subst (λ (k : ℕ). Takes bytes ((u2 a.0.0 ++ u4 k) ++ c.0.0) c.0.1) (sym u.1) both in
     let made : ℕ × List ℕ × List ℕ = (a.0.0, c.0.0, c.0.1) in
-    subst (λ (y : ℕ × List ℕ × List ℕ). Takes bytes (attribute_text (attribute_of y.0 y.1)) y.2 × IsAttribute (attribute_of y.0 y.1)) (some_is made x c.2)
+    given_as (λ (y : ℕ × List ℕ × List ℕ). Takes bytes (attribute_text (attribute_of y.0 y.1)) y.2 × IsAttribute (attribute_of y.0 y.1)) made x c.2
     (whole, record { name = s.1; content = omega (arith, t.1, u.1) })
 
 attribute_again : (a : Attribute) (rest : List ℕ) → IsAttribute a → attribute_at (attribute_text a ++ rest) ≡ Some (a.name, a.content, rest)
@@ -59,7 +59,7 @@ record TakesAttributes (n : ℕ) (bytes rest : List ℕ) : Type 0 where
 behind_takes : (n : ℕ) (bytes rest : List ℕ) → IsBytes bytes → behind_at n bytes ≡ Some rest → TakesAttributes n bytes rest
 unfolding behind_at
 behind_takes zero bytes rest fits e =
-    subst (λ (y : List ℕ). TakesAttributes 0 bytes y) (some_is bytes rest e) (record { attributes = []; are_attributes = tt; count_is = refl; taken = Takes-none bytes fits })
+    given_as (λ (y : List ℕ). TakesAttributes 0 bytes y) bytes rest e (record { attributes = []; are_attributes = tt; count_is = refl; taken = Takes-none bytes fits })
 behind_takes (suc n) bytes rest fits e =
     let a = bind_some (attribute_at bytes) (λ first. behind_at n first.2) rest e in
     let t = attribute_takes bytes a.0 fits a.1 in
@@ -137,8 +137,8 @@ none_behind pool content (a ∷ others) x e =
     elim (chosen (is_code (slice_get pool a.name)) None (Some (Some content)) (Some b.0) b.1) [
       | inl h ↦ absurd (let no : None ≡ Some b.0 = h.1 in cc)
       | inr h ↦
-        let r = none_behind pool content others x (ap (λ (f : Option (List ℕ)). found_among pool f others) (some_is (Some content) b.0 h.1) ∙ b.2) in
-        ((is_code-false pool a h.0, r.0), r.1)
+          let r = none_behind pool content others x (ap (λ (f : Option (List ℕ)). found_among pool f others) (some_is (Some content) b.0 h.1) ∙ b.2) in
+          ((is_code-false pool a h.0, r.0), r.1)
     ]
 
 none_behind-again : (pool : List Entry) (content : List ℕ) (attributes : List Attribute) → AllByRecursion (λ a. ¬ IsNamedCode pool a) attributes → found_among pool (Some content) attributes ≡ Some (Some content)
@@ -153,11 +153,11 @@ one_code pool content (a ∷ others) e =
     let b = bind_some (found_at pool None a.name a.content) (λ next. found_among pool next others) (Some content) e in
     elim (chosen (is_code (slice_get pool a.name)) (Some (Some a.content)) (Some None) (Some b.0) b.1) [
       | inl h ↦
-        let r = none_behind pool a.content others (Some content) (ap (λ (f : Option (List ℕ)). found_among pool f others) (some_is (Some a.content) b.0 h.1) ∙ b.2) in
-        record { before = []; after = others; code = a; parts = refl; named = is_code-true (slice_get pool a.name) h.0; none_before = tt; none_after = r.0; content_is = sym (some_is content a.content r.1) }
+          let r = none_behind pool a.content others (Some content) (ap (λ (f : Option (List ℕ)). found_among pool f others) (some_is (Some a.content) b.0 h.1) ∙ b.2) in
+          record { before = []; after = others; code = a; parts = refl; named = is_code-true (slice_get pool a.name) h.0; none_before = tt; none_after = r.0; content_is = sym (some_is content a.content r.1) }
       | inr h ↦
-        let r = one_code pool content others (ap (λ (f : Option (List ℕ)). found_among pool f others) (some_is None b.0 h.1) ∙ b.2) in
-        record { before = a ∷ r.before; after = r.after; code = r.code; parts = ap (λ (x : List Attribute). a ∷ x) r.parts; named = r.named; none_before = (is_code-false pool a h.0, r.none_before); none_after = r.none_after; content_is = r.content_is }
+          let r = one_code pool content others (ap (λ (f : Option (List ℕ)). found_among pool f others) (some_is None b.0 h.1) ∙ b.2) in
+          record { before = a ∷ r.before; after = r.after; code = r.code; parts = ap (λ (x : List Attribute). a ∷ x) r.parts; named = r.named; none_before = (is_code-false pool a h.0, r.none_before); none_after = r.none_after; content_is = r.content_is }
     ]
 
 one_code_between : (pool : List Entry) (before after : List Attribute) (code : Attribute) → AllByRecursion (λ a. ¬ IsNamedCode pool a) before → IsNamedCode pool code → AllByRecursion (λ a. ¬ IsNamedCode pool a) after
@@ -183,7 +183,7 @@ record TakesFound (pool : List Entry) (n : ℕ) (found : Option (List ℕ)) (byt
 code_takes : (pool : List Entry) (n : ℕ) (found : Option (List ℕ)) (bytes : List ℕ) (x : Option (List ℕ) × List ℕ) → IsBytes bytes → code_at pool n found bytes ≡ Some x → TakesFound pool n found bytes x
 unfolding code_at found_among
 code_takes pool zero found bytes x fits e =
-    subst (λ (y : Option (List ℕ) × List ℕ). TakesFound pool 0 found bytes y) (some_is (found, bytes) x e) (record { attributes = []; are_attributes = tt; count_is = refl; taken = Takes-none bytes fits; found_is = refl })
+    given_as (λ (y : Option (List ℕ) × List ℕ). TakesFound pool 0 found bytes y) (found, bytes) x e (record { attributes = []; are_attributes = tt; count_is = refl; taken = Takes-none bytes fits; found_is = refl })
 code_takes pool (suc n) found bytes x fits e =
     let a = bind_some (attribute_at bytes) (λ first. found_at pool found first.0 first.1 >>= λ next. code_at pool n next first.2) x e in
     let b = bind_some (found_at pool found a.0.0 a.0.1) (λ next. code_at pool n next a.0.2) x a.2 in
@@ -227,7 +227,7 @@ one_code_takes pool bytes x fits e =
     let r = code_takes pool a.0.0 None a.0.1 b.0 t.0.rest_fits b.1 in
     let both = Takes-then bytes (u2 a.0.0) a.0.1 (flat_map attribute_text r.attributes) b.0.1 t.0 r.taken in
     let made : List ℕ × List ℕ = (c.0, b.0.1) in
-    subst (λ (y : List ℕ × List ℕ). TakesOneCode pool bytes y) (some_is made x c.2)
+    given_as (λ (y : List ℕ × List ℕ). TakesOneCode pool bytes y) made x c.2
     (record {
       attributes = r.attributes;
       are_attributes = (omega (arith, t.1, r.count_is), r.are_attributes);

@@ -1,5 +1,5 @@
 -- An item of the constant pool that is read is spelled so, and what is spelled so is read.
-use Rattle.std.proofs.Common.{◌≡◌, ℕ, ◌+◌, ◌^◌, ◌<◌, Bool, true, false, cond, eqb, List, [], ◌∷◌, ◌++◌, length, Option, Some, None, refl, sym, ap, subst, ◌∙◌, ◌⊎◌, inl, inr, append_assoc, arith}
+use Rattle.std.proofs.Common.{◌≡◌, ℕ, ◌^◌, ◌<◌, Bool, true, false, cond, eqb, List, [], ◌∷◌, ◌++◌, length, Option, Some, None, refl, sym, ap, subst, ◌∙◌, ◌⊎◌, inl, inr, arith}
 use Rattle.std.proofs.lemmas.Bool.{eqb-true, ne_eqb}
 use Rattle.jv_class.specs.declared.outline.Entry.{Entry}
 use Rattle.jv_class.specs.declared.outline.Entry.TheVariants as entry
@@ -7,7 +7,7 @@ use Rattle.jv_class.specs.Layout.{u2, Item, Utf8, Class, Methodref, NameAndType,
 use Rattle.jv_class.specs.Outlines.{entry_of}
 use Rattle.jv_class.specs.Reading.{◌>>=◌, u2_at, bytes_at}
 use Rattle.jv_class.specs.LayoutReading.{text_at, pair_at, is_wide_tag, other_at, utf8_at, class_at, methodref_at, name_and_type_at, tagged_at, item_at}
-use Rattle.jv_class.proofs.LayoutFields.{IsBytes, IsBytes-rest, bind_some, some_is, Takes, Takes-then, u2_takes, u2_again, bytes_take, bytes_again}
+use Rattle.jv_class.proofs.LayoutFields.{IsBytes, IsBytes-rest, bind_some, given_as, Takes, Takes-then, u2_takes, u2_again, bytes_take, bytes_again}
 
 -- a step that gives a value goes on with it
 pub bind_is : {A B : Type 0} (o : Option A) (f : A → Option B) (x : A) → o ≡ Some x → (o >>= f) ≡ f x
@@ -46,7 +46,7 @@ pair_takes bytes x fits e =
     let t = u2_takes a.0.1 b.0 s.0.rest_fits b.1 in
     let both : Takes bytes (u2 a.0.0 ++ u2 b.0.0) b.0.1 = Takes-then bytes (u2 a.0.0) a.0.1 (u2 b.0.0) b.0.1 s.0 t.0 in
     let made : ℕ × ℕ × List ℕ = (a.0.0, b.0.0, b.0.1) in
-    subst (λ (y : ℕ × ℕ × List ℕ). Takes bytes (u2 y.0 ++ u2 y.1) y.2 × (y.0 < 2 ^ 16) × (y.1 < 2 ^ 16)) (some_is made x b.2) (both, s.1, t.1)
+    given_as (λ (y : ℕ × ℕ × List ℕ). Takes bytes (u2 y.0 ++ u2 y.1) y.2 × (y.0 < 2 ^ 16) × (y.1 < 2 ^ 16)) made x b.2 (both, s.1, t.1)
 
 pub pair_again : (first second : ℕ) (rest : List ℕ) → first < 2 ^ 16 → second < 2 ^ 16 → pair_at ((u2 first ++ u2 second) ++ rest) ≡ Some (first, second, rest)
 unfolding pair_at
@@ -70,7 +70,7 @@ utf8_takes bytes x fits e =
     let a = bind_some (text_at bytes) (λ text. Some (entry.Utf8 text.0, false, text.1)) x e in
     let t = text_takes bytes a.0 fits a.1 in
     let made : Entry × Bool × List ℕ = (entry.Utf8 a.0.0, false, a.0.1) in
-    subst (λ (y : Entry × Bool × List ℕ). TakesItem (1 ∷ bytes) y) (some_is made x a.2)
+    given_as (λ (y : Entry × Bool × List ℕ). TakesItem (1 ∷ bytes) y) made x a.2
     (record { item = Utf8 a.0.0; is_item = t.1; taken = Takes-tag 1 bytes (u2 (length a.0.0) ++ a.0.0) a.0.1 t.0; entry_is = refl; wide_is = refl })
 
 class_takes : (bytes : List ℕ) (x : Entry × Bool × List ℕ) → IsBytes bytes → class_at bytes ≡ Some x → TakesItem (7 ∷ bytes) x
@@ -79,7 +79,7 @@ class_takes bytes x fits e =
     let a = bind_some (u2_at bytes) (λ name. Some (entry.Class name.0, false, name.1)) x e in
     let t = u2_takes bytes a.0 fits a.1 in
     let made : Entry × Bool × List ℕ = (entry.Class a.0.0, false, a.0.1) in
-    subst (λ (y : Entry × Bool × List ℕ). TakesItem (7 ∷ bytes) y) (some_is made x a.2)
+    given_as (λ (y : Entry × Bool × List ℕ). TakesItem (7 ∷ bytes) y) made x a.2
     (record { item = Class a.0.0; is_item = t.1; taken = Takes-tag 7 bytes (u2 a.0.0) a.0.1 t.0; entry_is = refl; wide_is = refl })
 
 methodref_takes : (bytes : List ℕ) (x : Entry × Bool × List ℕ) → IsBytes bytes → methodref_at bytes ≡ Some x → TakesItem (10 ∷ bytes) x
@@ -88,7 +88,7 @@ methodref_takes bytes x fits e =
     let a = bind_some (pair_at bytes) (λ pair. Some (entry.Methodref pair.0 pair.1, false, pair.2)) x e in
     let t = pair_takes bytes a.0 fits a.1 in
     let made : Entry × Bool × List ℕ = (entry.Methodref a.0.0 a.0.1, false, a.0.2) in
-    subst (λ (y : Entry × Bool × List ℕ). TakesItem (10 ∷ bytes) y) (some_is made x a.2)
+    given_as (λ (y : Entry × Bool × List ℕ). TakesItem (10 ∷ bytes) y) made x a.2
     (record { item = Methodref a.0.0 a.0.1; is_item = (t.1, t.2); taken = Takes-tag 10 bytes (u2 a.0.0 ++ u2 a.0.1) a.0.2 t.0; entry_is = refl; wide_is = refl })
 
 name_and_type_takes : (bytes : List ℕ) (x : Entry × Bool × List ℕ) → IsBytes bytes → name_and_type_at bytes ≡ Some x → TakesItem (12 ∷ bytes) x
@@ -97,7 +97,7 @@ name_and_type_takes bytes x fits e =
     let a = bind_some (pair_at bytes) (λ pair. Some (entry.NameAndType pair.0 pair.1, false, pair.2)) x e in
     let t = pair_takes bytes a.0 fits a.1 in
     let made : Entry × Bool × List ℕ = (entry.NameAndType a.0.0 a.0.1, false, a.0.2) in
-    subst (λ (y : Entry × Bool × List ℕ). TakesItem (12 ∷ bytes) y) (some_is made x a.2)
+    given_as (λ (y : Entry × Bool × List ℕ). TakesItem (12 ∷ bytes) y) made x a.2
     (record { item = NameAndType a.0.0 a.0.1; is_item = (t.1, t.2); taken = Takes-tag 12 bytes (u2 a.0.0 ++ u2 a.0.1) a.0.2 t.0; entry_is = refl; wide_is = refl })
 
 other_takes : (tag : ℕ) (bytes : List ℕ) (x : Entry × Bool × List ℕ) → IsBytes bytes → other_at tag bytes ≡ Some x → TakesItem (tag ∷ bytes) x
@@ -107,7 +107,7 @@ other_takes tag bytes x fits e =
     let b = bind_some (bytes_at bytes a.0) (λ content. Some (entry.Unused, is_wide_tag tag, content.1)) x a.2 in
     let t = bytes_take bytes a.0 b.0 fits b.1 in
     let made : Entry × Bool × List ℕ = (entry.Unused, is_wide_tag tag, b.0.1) in
-    subst (λ (y : Entry × Bool × List ℕ). TakesItem (tag ∷ bytes) y) (some_is made x b.2)
+    given_as (λ (y : Entry × Bool × List ℕ). TakesItem (tag ∷ bytes) y) made x b.2
     (record { item = Other tag b.0.0; is_item = a.1 ∙ ap (λ (k : ℕ). Some k) (sym t.1); taken = Takes-tag tag bytes b.0.0 b.0.1 t.0; entry_is = refl; wide_is = refl })
 
 tagged_takes : (tag : ℕ) (bytes : List ℕ) (x : Entry × Bool × List ℕ) → IsBytes bytes → tagged_at tag bytes ≡ Some x → TakesItem (tag ∷ bytes) x

@@ -1,5 +1,5 @@
 -- A constant pool that is read is spelled so, and what is spelled so is read.
-use Rattle.std.proofs.Common.{◌≡◌, ℕ, zero, suc, ◌+◌, ◌-◌, ◌^◌, ◌<◌, Bool, true, false, cond, eqb, List, [], ◌∷◌, ◌++◌, length, Option, Some, None, refl, sym, ap, subst, ◌∙◌, append_assoc, arith}
+use Rattle.std.proofs.Common.{◌≡◌, ℕ, zero, suc, ◌+◌, ◌-◌, ◌^◌, ◌<◌, Bool, true, false, cond, eqb, List, [], ◌∷◌, ◌++◌, Some, None, refl, sym, ap, subst, ◌∙◌, append_assoc, arith}
 use Rattle.std.specs.List.{flat_map, AllByRecursion}
 use Rattle.std.proofs.lemmas.Bool.{eqb-false, ne_eqb}
 use Rattle.std.proofs.lemmas.List.Concat.{flat_map-cons}
@@ -9,8 +9,8 @@ use Rattle.jv_class.specs.Layout.{u2, Item, item_text, IsItem, is_wide, index_co
 use Rattle.jv_class.specs.Outlines.{entry_of, entries_of}
 use Rattle.jv_class.specs.Reading.{◌>>=◌, u2_at}
 use Rattle.jv_class.specs.LayoutReading.{item_at, slot_at, entries_at, indexed_at, pool_at}
-use Rattle.jv_class.proofs.LayoutFields.{IsBytes, bind_some, past_false, some_is, Takes, Takes-none, Takes-then, u2_takes, u2_again}
-use Rattle.jv_class.proofs.LayoutItems.{bind_is, TakesItem, item_takes, item_again}
+use Rattle.jv_class.proofs.LayoutFields.{IsBytes, bind_some, given_as, past_false, Takes, Takes-none, Takes-then, u2_takes, u2_again}
+use Rattle.jv_class.proofs.LayoutItems.{bind_is, item_takes, item_again}
 
 -- the entries of items behind one that takes the next index too, or doesn't
 spread : Bool → List Item → List Entry
@@ -41,13 +41,13 @@ entries_take : (n : ℕ) (wide : Bool) (bytes : List ℕ) (x : List Entry × Lis
 unfolding entries_at slot_at spread
 entries_take zero true bytes x fits e = absurd cc
 entries_take zero false bytes x fits e =
-    subst (λ (y : List Entry × List ℕ). TakesItems 0 false bytes y) (some_is ([], bytes) x e)
+    given_as (λ (y : List Entry × List ℕ). TakesItems 0 false bytes y) ([], bytes) x e
     (record { items = []; are_items = tt; taken = Takes-none bytes fits; count_is = refl; entries_are = refl })
 entries_take (suc n) true bytes x fits e =
     let b = bind_some (entries_at n false bytes) (λ others. Some (entry.Unused ∷ others.0, others.1)) x e in
     let r = entries_take n false bytes b.0 fits b.1 in
     let made : List Entry × List ℕ = (entry.Unused ∷ b.0.0, b.0.1) in
-    subst (λ (y : List Entry × List ℕ). TakesItems (suc n) true bytes y) (some_is made x b.2)
+    given_as (λ (y : List Entry × List ℕ). TakesItems (suc n) true bytes y) made x b.2
     (record { items = r.items; are_items = r.are_items; taken = r.taken; count_is = omega (arith, r.count_is); entries_are = ap (λ (es : List Entry). entry.Unused ∷ es) r.entries_are })
 entries_take (suc n) false bytes x fits e =
     let a = bind_some (item_at bytes) (λ first. entries_at n first.1 first.2 >>= λ others. Some (first.0 ∷ others.0, others.1)) x e in
@@ -57,9 +57,9 @@ entries_take (suc n) false bytes x fits e =
     let both = Takes-then bytes (item_text t.item) a.0.2 (flat_map item_text r.items) b.0.1 t.taken r.taken in
     let counted : 0 + (cond (is_wide t.item) 2 1 + index_count r.items) ≡ suc n = subst (λ (w : Bool). 0 + (cond w 2 1 + index_count r.items) ≡ suc n) (sym t.wide_is) (count_more a.0.1 (index_count r.items) n r.count_is) in
     let listed : cond (is_wide t.item) (entry_of t.item ∷ entry.Unused ∷ entries_of r.items) (entry_of t.item ∷ entries_of r.items) ≡ a.0.0 ∷ b.0.0 =
-        entries_more (is_wide t.item) a.0.1 (entry_of t.item) a.0.0 r.items b.0.0 t.wide_is t.entry_is r.entries_are in
+    entries_more (is_wide t.item) a.0.1 (entry_of t.item) a.0.0 r.items b.0.0 t.wide_is t.entry_is r.entries_are in
     let made : List Entry × List ℕ = (a.0.0 ∷ b.0.0, b.0.1) in
-    subst (λ (y : List Entry × List ℕ). TakesItems (suc n) false bytes y) (some_is made x b.2)
+    given_as (λ (y : List Entry × List ℕ). TakesItems (suc n) false bytes y) made x b.2
     (record { items = t.item ∷ r.items; are_items = (t.is_item, r.are_items); taken = rw flat_map-cons both; count_is = counted; entries_are = listed })
 
 -- a pool stands at the front, and this is kept of it
@@ -82,7 +82,7 @@ pool_takes bytes x fits e =
     let count_is : a.0.0 ≡ 1 + index_count r.items = omega (arith, r.count_is, not_zero) in
     let both = Takes-then bytes (u2 a.0.0) a.0.1 (flat_map item_text r.items) b.0.1 t.0 r.taken in
     let made : List Entry × List ℕ = (entry.Unused ∷ b.0.0, b.0.1) in
-    subst (λ (y : List Entry × List ℕ). TakesPool bytes y) (some_is made x b.2)
+    given_as (λ (y : List Entry × List ℕ). TakesPool bytes y) made x b.2
     (record {
       items = r.items;
       are_items = r.are_items;

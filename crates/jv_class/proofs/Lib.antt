@@ -3,3 +3,5 @@ pub mod LayoutFields
 pub mod LayoutItems
 pub mod LayoutPool
 pub mod LayoutAttributes
+pub mod LayoutMembers
+pub mod LayoutWhole

@@ -1,13 +1,13 @@
 -- Reading the layout of a class file from the front of a list of bytes, part by part: what is kept of the
 -- part and what is left, or nothing where the bytes don't begin with such a part.
-use Rattle.std.specs.Prelude.{◌≡◌, ℕ, zero, suc, ◌-◌, List, [], ◌∷◌, length, codes, Bool, true, false, ◌||◌, ◌==◌, Option, Some, None, is_some, if◌then◌else◌}
+use Rattle.std.specs.Prelude.{ℕ, zero, suc, ◌-◌, List, [], ◌∷◌, length, codes, Bool, true, false, ◌||◌, ◌==◌, Option, Some, None, is_some, if◌then◌else◌}
 use Rattle.std.specs.List.{slice_get}
 use Rattle.std.specs.Str.{bytes_eq}
 use Rattle.jv_class.specs.declared.outline.Entry.{Entry}
 use Rattle.jv_class.specs.declared.outline.Entry.TheVariants as entry
 use Rattle.jv_class.specs.declared.outline.RawMethod.{RawMethod}
 use Rattle.jv_class.specs.declared.outline.Outline.{Outline}
-use Rattle.jv_class.specs.Layout.{other_width, Attribute}
+use Rattle.jv_class.specs.Layout.{other_width}
 use Rattle.jv_class.specs.Reading.{◌>>=◌, u1_at, u2_at, u4_at, bytes_at}
 
 -- ---- the constant pool

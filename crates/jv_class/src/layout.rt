@@ -1,5 +1,7 @@
-ghost use Rattle.std.specs.Prelude.{◌≡◌};
+ghost use Rattle.std.specs.Prelude.{◌≡◌, List, ℕ, IfOk, Err};
+ghost use Rattle.jv_class.specs.declared.outline.Outline.{Outline};
 ghost use Rattle.jv_class.specs.LayoutReading.{header_at, names_at, outline_at};
+ghost use Rattle.jv_class.specs.Outlines.{IsOutline};
 ghost use Rattle.jv_class.specs.Reading.{Gives};
 
 use crate::attributes::pass_counted;
@@ -62,3 +64,18 @@ fn read_all(alloc: Global, bytes: &[u8]) -> Result<Outline, ReadError>
         methods,
     })
 }
+
+/// Reads the layout of a class file whose methods have one `Code` each and which has neither interfaces
+/// nor fields (JVMS 4.1). `Malformed` is answered exactly where the bytes aren't such a file. What the
+/// form doesn't look at is passed over by its length and takes no memory.
+pub fn read_outline(alloc: Global, bytes: &[u8]) -> Result<Outline, ReadError>
+    ensures found { IfOk result (IsOutline bytes.now) }
+    ensures malformed { result ≡ Err ReadError.Malformed → (o : Outline) → IsOutline bytes.now o → ⊥ }
+{
+    read_all(alloc, bytes)
+}
+
+/// No bytes have two outlines.
+pub fn one_outline()
+    ensures { (bytes : List ℕ) (o p : Outline) → IsOutline bytes o → IsOutline bytes p → o ≡ p }
+{}

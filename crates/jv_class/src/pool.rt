@@ -109,11 +109,7 @@ fn read_slot(alloc: Global, wide: bool, bytes: &[u8]) -> Result<(Entry, bool, &[
 }
 
 /// The entries of as many indices from 1 on, behind an unused one for 0.
-fn read_indexed(
-    alloc: Global,
-    indices: u16,
-    bytes: &[u8],
-) -> Result<(Vec<Entry>, &[u8]), ReadError>
+fn read_indexed(alloc: Global, indices: u16, bytes: &[u8]) -> Result<(Vec<Entry>, &[u8]), ReadError>
     ensures { Gives (λ x. (x.0.items, x.1.now)) result (indexed_at indices bytes.now) }
 {
     let mut entries = Vec::new(alloc);

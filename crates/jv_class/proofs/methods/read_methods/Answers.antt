@@ -1,5 +1,4 @@
 -- Each step of the loop, by the lemmas on reading methods one after the other.
-use Rattle.std.proofs.Common.{◌≡◌, ◌++◌, ◌∷◌, []}
 use Rattle.std.proofs.lemmas.Result.{err_from_is_err_and}
 use Rattle.jv_class.specs.LayoutReading.{methods_at}
 use Rattle.jv_class.proofs.LayoutLoops.{method_goes_on, method_ends, methods_are_done}

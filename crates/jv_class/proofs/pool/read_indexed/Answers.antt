@@ -1,5 +1,5 @@
 -- Each step of the loop, by the lemmas on reading entries one after the other.
-use Rattle.std.proofs.Common.{◌≡◌, ◌++◌, ◌∷◌, []}
+use Rattle.std.proofs.Common.{◌≡◌, ◌∷◌, []}
 use Rattle.std.proofs.lemmas.Result.{err_from_is_err_and}
 use Rattle.jv_class.specs.declared.outline.Entry.TheVariants.{Unused}
 use Rattle.jv_class.specs.LayoutReading.{indexed_at}
