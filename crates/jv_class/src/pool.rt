@@ -97,12 +97,12 @@ fn read_item(alloc: Global, bytes: &[u8]) -> Result<(Entry, bool, &[u8]), ReadEr
     read_tagged(alloc, tag, rest)
 }
 
-/// The entry of the next index, where `wide` says whether the item before it takes this index too.
+/// The entry of the next index, where `taken` says whether the item before it takes this index too.
 #[tactic(auto, unfolding(crate::specs::LayoutReading::slot_at))]
-fn read_slot(alloc: Global, wide: bool, bytes: &[u8]) -> Result<(Entry, bool, &[u8]), ReadError>
-    ensures { Gives (λ x. (x.0, x.1, x.2.now)) result (slot_at wide bytes.now) }
+fn read_slot(alloc: Global, taken: bool, bytes: &[u8]) -> Result<(Entry, bool, &[u8]), ReadError>
+    ensures { Gives (λ x. (x.0, x.1, x.2.now)) result (slot_at taken bytes.now) }
 {
-    if wide {
+    if taken {
         return Ok((Entry::Unused, false, bytes));
     }
     read_item(alloc, bytes)
