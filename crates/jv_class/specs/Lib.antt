@@ -2,3 +2,4 @@ pub mod Layout
 pub mod Outlines
 pub mod Form
 pub mod Reading
+pub mod LayoutReading

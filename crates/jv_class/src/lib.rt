@@ -1,8 +1,12 @@
 //! Class files: the form of a class of static methods over words, and its reader.
 #![tactic(auto)]
 
+mod attributes;
+mod layout;
+mod methods;
 mod number;
 mod outline;
+mod pool;
 mod read_error;
 mod static_class;
 
