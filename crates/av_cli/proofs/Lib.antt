@@ -1,2 +1,5 @@
 pub mod Sinks
 pub mod ShownText
+pub mod Runs
+pub mod Marking
+pub mod Searching

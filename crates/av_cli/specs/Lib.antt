@@ -5,3 +5,5 @@ pub mod Promise
 pub mod Answers
 pub mod Handing
 pub mod Ending
+pub mod Marks
+pub mod Covers
