@@ -1,20 +1,18 @@
 -- What marking places does: one place, one after another, and none.
-use Rattle.std.proofs.Common.{◌≡◌, ℕ, ◌+◌, ◌<◌, ◌≤◌, ◌⊎◌, Bool, true, false, not, cond, IsTrue, List, [], ◌∷◌, ◌++◌, length, set, get_or, take, Contains, refl, sym, ◌∙◌, ap, inl, inr, ⊎_elim, arith, rules}
-use Rattle.std.proofs.lemmas.Bool.{cases_eq, false≢true}
-use Rattle.std.proofs.lemmas.List.{length-set, get_or-set_same, get_or-set_other, length_push, take_more}
+use Rattle.std.proofs.Common.{◌≡◌, ℕ, ◌<◌, ◌⊎◌, Bool, true, false, not, cond, IsTrue, List, [], ◌∷◌, ◌++◌, length, set, get_or, refl, sym, ◌∙◌, inl, inr, ⊎_elim, arith}
+use Rattle.std.proofs.lemmas.Bool.{cases_eq}
+use Rattle.std.proofs.lemmas.List.{length-set, get_or-set_same, get_or-set_other, length_push, get_or_read}
 use Rattle.std.proofs.lemmas.List.Elements.{Contains-append_left, Contains-push, Contains-push_cases}
 use Rattle.std.proofs.lemmas.List.Sums.{sum_by-set}
-use Rattle.jv_class.specs.declared.static_class.Instruction.TheVariants.{Call}
-use Rattle.jv_class.specs.declared.static_class.Placed.{Placed}
-use Rattle.av_cli.specs.Marks.{marked, unmarked_count, HasCallee, MarksAll}
+use Rattle.av_cli.specs.Marks.{marked, MarksAll}
 
 -- the places that aren't the marked one keep their marks
 marked-set : (marks : List Bool) (place p : ℕ) → place < length marks → (marked (set marks place true) p ≡ true) ⊎ ((p ≡ place → ⊥) × (marked (set marks place true) p ≡ marked marks p))
 marked-set marks place p below =
     ⊎_elim
-      (λ (same : p ≡ place). inl (rw same (get_or-set_same marks place true false below)))
-      (λ (other : p ≡ place → ⊥). inr (other, get_or-set_other marks place p true false other))
-      (cases_eq p place)
+    (λ (same : p ≡ place). inl (rw same (get_or-set_same marks place true false below)))
+    (λ (other : p ≡ place → ⊥). inr (other, get_or-set_other marks place p true false other))
+    (cases_eq p place)
 
 -- marks of which each place of P is one already
 pub MarksAll-already : (P : ℕ → Type 0) (marks : List Bool) (pending : List ℕ) → ((p : ℕ) → P p → IsTrue (marked marks p)) → MarksAll P marks pending marks pending
@@ -26,7 +24,7 @@ MarksAll-already P marks pending already = record {
   still_pending = λ p h. h;
   fresh_pending = λ p h. inl h;
   pending_marked = λ p h. inl h;
-  work = refl
+  work = refl;
 }
 
 -- one place that isn't marked
@@ -44,8 +42,8 @@ MarksAll-one marks pending place below fresh = record {
       ⊎_elim (λ before. inl before) (λ same. inr (rw (← same) (get_or-set_same marks place true false below))) (Contains-push_cases pending place p h);
   work =
       let counted = sum_by-set (λ b. cond (not b) 1 0) marks place true false below in
-      let value : cond (not (get_or marks place false)) 1 0 ≡ 1 = rw fresh refl in
-      omega (arith, counted, value, length_push pending place)
+      let value : ◌≡◌ {A = ℕ} (cond (not (get_or marks place false)) 1 0) 1 = rw fresh refl in
+      omega (arith, counted, value, length_push pending place);
 }
 
 -- the same places under another name
@@ -59,7 +57,7 @@ MarksAll-same P Q marks pending new_marks new_pending into from m = record {
   still_pending = m.still_pending;
   fresh_pending = m.fresh_pending;
   pending_marked = m.pending_marked;
-  work = m.work
+  work = m.work;
 }
 
 -- one marking after another
@@ -75,5 +73,9 @@ MarksAll-then P Q a aw b bw c cw first second = record {
       ⊎_elim (λ mid. ⊎_elim (λ old. inl old) (λ new. inr (second.still_pending p new)) (first.fresh_pending p mid)) (λ new. inr new) (second.fresh_pending p h);
   pending_marked = λ p h.
       ⊎_elim (λ mid. ⊎_elim (λ old. inl old) (λ new. inr (second.kept p new)) (first.pending_marked p mid)) (λ new. inr new) (second.pending_marked p h);
-  work = second.work ∙ first.work
+  work = second.work ∙ first.work;
 }
+
+-- what reading a mark says
+pub marked-read : (marks : List Bool) (place : ℕ) (mark : Bool) → place < length marks → mark ≡ get_or marks place mark → marked marks place ≡ mark
+marked-read marks place mark below read = sym (get_or_read marks place mark below read false)

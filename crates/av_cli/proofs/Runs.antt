@@ -1,11 +1,11 @@
 -- Lines of a closed set have each call of each run: an induction over the events of the run.
-use Rattle.std.proofs.Common.{◌≡◌, ℕ, ◌<◌, Bool, IsTrue, List, [], ◌∷◌, ◌++◌, length, Contains, Some, refl, inl, inr, get_or}
+use Rattle.std.proofs.Common.{◌≡◌, ℕ, Bool, IsTrue, List, [], ◌∷◌, ◌++◌, Contains, Some, refl, inl, inr, get_or}
 use Rattle.std.specs.List.{slice_get, AllByRecursion}
 use Rattle.std.proofs.lemmas.Option.{slice_get-get_or}
 use Rattle.jv_class.specs.declared.static_class.Instruction.TheVariants.{Call}
 use Rattle.jv_class.specs.declared.static_class.Method.{Method}
 use Rattle.jv_class.specs.declared.static_class.StaticClass.{StaticClass}
-use Rattle.av_cli.specs.Machine.{Frame, State, Event, Enter, Next, Invoke, Leave, Throw, Origin, Library, Site, MethodCall, InstructionAt, IsMain, go_on, Step, Leads}
+use Rattle.av_cli.specs.Machine.{Frame, State, Event, Enter, Next, Invoke, Leave, Throw, Library, Site, MethodCall, InstructionAt, IsMain, go_on, Step, Leads}
 use Rattle.av_cli.specs.Marks.{AreCallsInRange}
 use Rattle.av_cli.specs.Reach.{IsClosed}
 use Rattle.av_cli.specs.Lines.{AreLines, HasLine, library_line, call_line}
@@ -60,7 +60,7 @@ module _ (class : StaticClass) (set : ℕ → Bool) (lines : List (List ℕ)) (r
       let before = rw frames_are at inside in
       rw (calls_is, new_is) (record {
         inside = (closed.callees f.method f.pc place before.0 at, before);
-        have_lines = (call_has_line f.method f.pc place before.0 at, tt)
+        have_lines = (call_has_line f.method f.pc place before.0 at, tt);
       })
 
   after_leave : (old : State) (calls : List MethodCall) (new : State) → AllInside set old.frames → Step class old Leave calls new → Keeps class set lines calls new

@@ -1,6 +1,5 @@
 -- A set of methods that is kept as a mark for each place, and the search that makes it.
-use Rattle.std.specs.Prelude.{◌≡◌, ℕ, ◌+◌, ◌<◌, ◌⊎◌, Bool, false, not, IsTrue, List, length, slice_index_or, Some, codes, Contains, count_by}
-use Rattle.std.specs.List.{slice_get}
+use Rattle.std.specs.Prelude.{◌≡◌, ℕ, ◌+◌, ◌<◌, ◌⊎◌, Bool, false, not, IsTrue, List, length, slice_index_or, codes, Contains, count_by}
 use Rattle.jv_class.specs.declared.static_class.Instruction.TheVariants.{Call}
 use Rattle.jv_class.specs.declared.static_class.Method.{Method}
 use Rattle.jv_class.specs.declared.static_class.Placed.{Placed}
@@ -24,6 +23,10 @@ IsMainMethod m = (m.name ≡ codes "main") × (m.desc ≡ main_desc) × IsPublic
 -- the code calls the method at this place
 abbrev pub HasCallee : List Placed → ℕ → Type 0
 HasCallee code callee = (pc : ℕ) × Contains code (record { pc = pc; instruction = Call callee })
+
+-- the method at a place calls the method at this one
+abbrev pub HasCalleeAt : StaticClass → ℕ → ℕ → Type 0
+HasCalleeAt class place callee = (pc : ℕ) × InstructionAt class place pc (Call callee)
 
 -- each call of the code names one of so many places
 pub record AreCalleesBelow (code : List Placed) (count : ℕ) : Type 0 where

@@ -4,5 +4,4 @@ ghost use Rattle.av_cli.specs.Covers.{CoversRuns};
 /// class has its line.
 pub fn covers_runs()
     ensures { CoversRuns }
-{
-}
+{}

@@ -1,7 +1,7 @@
 ghost use Rattle.std.specs.Prelude.{◌≡◌, ℕ, ◌+◌, ◌<◌, ◌↔◌, IsTrue, IfOk, IfSome, IfNone, OnOk, length, [], vec_len};
 ghost use Rattle.av_cli.specs.Machine.{IsMain};
 ghost use Rattle.av_cli.specs.Reach.{IsLeast};
-ghost use Rattle.av_cli.specs.Marks.{marked, unmarked_count, AreCallsInRange, AreCalleesBelow, HasCallee, IsMainMethod, MarksAll};
+ghost use Rattle.av_cli.specs.Marks.{marked, unmarked_count, AreCallsInRange, AreCalleesBelow, HasCallee, HasCalleeAt, IsMainMethod, MarksAll};
 
 use bitflags::Flags;
 use jv_class::{Instruction, Method, Placed, StaticClass};
@@ -65,7 +65,7 @@ impl Search {
         Ok(())
     }
 
-    /// Marks each place that the code calls.
+    /// Marks each place that the code calls. Only memory can be wanting.
     fn mark_callees(&mut self, code: &[Placed]) -> Result<(), AllocError>
         requires { AreCalleesBelow code.now (length self.old.marks.items) }
         ensures { OnOk result (MarksAll (HasCallee code.now) self.old.marks.items self.old.pending.items self.new.marks.items self.new.pending.items) }
@@ -78,7 +78,18 @@ impl Search {
         Ok(())
     }
 
-    /// Marks the place of main.
+    /// Marks each place that the method at this one calls. Only memory can be wanting.
+    fn follow(&mut self, class: &StaticClass, place: usize) -> Result<(), AllocError>
+        requires in_class { place < length class.now.methods }
+        requires calls { AreCallsInRange class.now }
+        requires count { length self.old.marks.items ≡ length class.now.methods }
+        ensures { OnOk result (MarksAll (HasCalleeAt class.now place) self.old.marks.items self.old.pending.items self.new.marks.items self.new.pending.items) }
+    {
+        let methods = class.methods.as_slice();
+        self.mark_callees(methods[place].code.as_slice())
+    }
+
+    /// Marks the place of main. Only memory can be wanting.
     fn mark_main(&mut self, class: &StaticClass) -> Result<(), AllocError>
         requires { length self.old.marks.items ≡ length class.now.methods }
         ensures { OnOk result (MarksAll (IsMain class.now) self.old.marks.items self.old.pending.items self.new.marks.items self.new.pending.items) }
@@ -98,11 +109,10 @@ pub fn reached_methods(alloc: Global, class: &StaticClass) -> Result<Vec<bool>, 
     requires { AreCallsInRange class.now }
     ensures { IfOk result (λ marks. IsLeast class.now (marked marks.items)) }
 {
-    let methods = class.methods.as_slice();
-    let mut search = Search::new(alloc, methods.len())?;
+    let mut search = Search::new(alloc, class.methods.len())?;
     search.mark_main(class)?;
     while let Some(place) = search.pending.pop() {
-        search.mark_callees(methods[place].code.as_slice())?;
+        search.follow(class, place)?;
     }
     Ok(search.marks)
 }
