@@ -17,13 +17,13 @@ module _ (code : List Placed) (i : ℕ) (d : Placed) (below : i < length code) w
   HasCallee-at callee is = ((get_or code i d).pc, rw (← is) (Contains-get_or code i d below))
 
   -- one more instruction: it stands in the longer front, and what stands there is it or stood there before
-  stands_cases : (x : Placed) → Contains (take (i + 1) code) x → Contains (take i code) x ⊎ (get_or code i d ≡ x)
+  pub stands_cases : (x : Placed) → Contains (take (i + 1) code) x → Contains (take i code) x ⊎ (get_or code i d ≡ x)
   stands_cases x has = Contains-push_cases (take i code) (get_or code i d) x (rw (take_more code i d below) at has)
 
-  stands_old : (x : Placed) → Contains (take i code) x → Contains (take (i + 1) code) x
+  pub stands_old : (x : Placed) → Contains (take i code) x → Contains (take (i + 1) code) x
   stands_old x has = rw (take_more code i d below) (Contains-append_left (take i code) (get_or code i d ∷ []) x has)
 
-  stands_new : Contains (take (i + 1) code) (get_or code i d)
+  pub stands_new : Contains (take (i + 1) code) (get_or code i d)
   stands_new = rw (take_more code i d below) (Contains-push (take i code) (get_or code i d))
 
   HasCallee-more : (p : ℕ) → HasCallee (take i code) p → HasCallee (take (i + 1) code) p

@@ -5,3 +5,5 @@ pub mod Marking
 pub mod Searching
 pub mod Places
 pub mod Callees
+pub mod Adding
+pub mod Printed

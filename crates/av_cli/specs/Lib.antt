@@ -7,3 +7,4 @@ pub mod Handing
 pub mod Ending
 pub mod Marks
 pub mod Covers
+pub mod Adding

@@ -1,13 +1,16 @@
 //! The commands of averroes.
 #![tactic(auto)]
 
+mod coverage;
 mod handing;
 mod saying;
+mod lines;
+mod printing;
+mod reach;
 mod status;
 
-pub use status::{Answer, Status};
-mod coverage;
-mod reach;
-
 pub use coverage::covers_runs;
+pub use lines::call_lines;
+pub use printing::write_lines;
 pub use reach::{is_main, main_place, reached_methods};
+pub use status::{Answer, Status};
