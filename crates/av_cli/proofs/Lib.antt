@@ -6,4 +6,4 @@ pub mod Searching
 pub mod Places
 pub mod Callees
 pub mod Adding
-pub mod Printed
+pub mod InForm
