@@ -4,7 +4,7 @@ use Rattle.std.proofs.lemmas.List.{take_more}
 use Rattle.std.proofs.lemmas.List.Elements.{Contains-get_or, Contains-append_left, Contains-push, Contains-push_cases}
 use Rattle.jv_class.specs.declared.static_class.Instruction.TheVariants.{Call}
 use Rattle.jv_class.specs.declared.static_class.Placed.{Placed}
-use Rattle.av_cli.specs.Marks.{HasCallee, MarksAll}
+use Rattle.av_cli.specs.Marks.{HasCallee, AreCalleesBelow, MarksAll}
 use Rattle.av_cli.proofs.Marking.{MarksAll-same, MarksAll-then}
 
 -- an empty code has no callee
@@ -51,3 +51,12 @@ module _ (code : List Placed) (i : ℕ) (d : Placed) (below : i < length code) w
       MarksAll-same (HasCallee (take i code)) (HasCallee (take (i + 1) code)) a aw b bw HasCallee-more
       (λ p has. ⊎_elim (λ old. old) (λ new. absurd (other p new)) (HasCallee-more_cases p has))
       marking
+
+  -- one more instruction, whose callee is in range if it has one
+  pub AreCalleesBelow-more : (count : ℕ) → AreCalleesBelow (take i code) count → ((callee : ℕ) → (get_or code i d).instruction ≡ Call callee → callee < count)
+      → AreCalleesBelow (take (i + 1) code) count
+  AreCalleesBelow-more count before now = record { below = λ callee has. ⊎_elim (λ old. before.below callee old) (λ new. now callee new) (HasCallee-more_cases callee has) }
+
+-- no instruction yet
+pub AreCalleesBelow-nil : (count : ℕ) → AreCalleesBelow [] count
+AreCalleesBelow-nil count = record { below = λ callee has. absurd (HasCallee-nil callee has) }

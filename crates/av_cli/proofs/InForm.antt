@@ -44,10 +44,10 @@ AreCallsInRange-from_form name bytes class form = record {
       let pool : List Entry = form.outline.pool in
       let found = AllZip-at (IsMethodOf pool class) form.outline.methods class.methods place at.0 form.is_class.methods at.1 in
       ⊎_elim
-        (λ static.
-          let all = IsInRange-all pool class at.0.code 0 found.1.code.bytes static.instructions in
-          All-contains (λ placed. IsInRange pool class placed.instruction) at.0.code (record { pc = pc; instruction = Call callee })
-            (All-from_recursion (λ placed. IsInRange pool class placed.instruction) at.0.code all) at.2 callee refl)
-        (λ constructor. absurd (omega (arith, (rw constructor.nothing_kept at at.2).1)))
-        found.1.kind
+      (λ static.
+      let all = IsInRange-all pool class at.0.code 0 found.1.code.bytes static.instructions in
+      All-contains (λ placed. IsInRange pool class placed.instruction) at.0.code (record { pc = pc; instruction = Call callee })
+      (All-from_recursion (λ placed. IsInRange pool class placed.instruction) at.0.code all) at.2 callee refl)
+      (λ constructor. absurd (omega (arith, (rw constructor.nothing_kept at at.2).1)))
+      found.1.kind;
 }

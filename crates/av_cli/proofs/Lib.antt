@@ -7,3 +7,4 @@ pub mod Places
 pub mod Callees
 pub mod Adding
 pub mod InForm
+pub mod CallGraph

@@ -1,5 +1,5 @@
 -- What stands at a place of a class: main, and the callees of a method.
-use Rattle.std.proofs.Common.{◌≡◌, ℕ, ◌+◌, ◌<◌, ◌≤◌, ◌⊎◌, Bool, List, length, get_or, Some, refl, sym, ◌∙◌, inl, inr, ⊎_elim, arith}
+use Rattle.std.proofs.Common.{◌≡◌, ℕ, ◌+◌, ◌<◌, ◌≤◌, ◌⊎◌, Bool, List, length, get_or, Some, refl, sym, ap, ◌∙◌, inl, inr, ⊎_elim, arith}
 use Rattle.std.proofs.lemmas.Bool.{cases_eq}
 use Rattle.std.specs.List.{slice_get}
 use Rattle.std.proofs.lemmas.Option.{slice_get_read, slice_get_within, same_Some}
@@ -67,3 +67,31 @@ module _ (class : StaticClass) (i : ℕ) (a : List Bool) (aw : List ℕ) (b : Li
       (λ p h. h.1)
       (λ p main. (omega (arith, IsMain-within class p main), main))
       marking
+
+-- the calls of the first methods are in range
+pub record AreMethodsInRange (class : StaticClass) (count : ℕ) : Type 0 where
+  pub in_range : (place callee : ℕ) → place < count → HasCalleeAt class place callee → callee < length class.methods
+
+pub AreMethodsInRange-none : (class : StaticClass) → AreMethodsInRange class 0
+AreMethodsInRange-none class = record { in_range = λ place callee before has. absurd (omega arith) }
+
+module _ (class : StaticClass) (items : List Method) (same : items ≡ class.methods) (place : ℕ) (m : Method) (below : place < length items) (read : m ≡ get_or items place m) where
+  -- one more method
+  pub AreMethodsInRange-more : AreMethodsInRange class place → AreCalleesBelow m.code (length class.methods) → AreMethodsInRange class (place + 1)
+  AreMethodsInRange-more before now = record {
+    in_range = λ p callee within has.
+        ⊎_elim
+        (λ (here : p ≡ place).
+        let one : has.1.0 ≡ m = same_Some has.1.0 m (sym has.1.1 ∙ (ap (slice_get class.methods) here ∙ method_at class items same place m below read)) in
+        now.below callee (has.0, rw (← one) has.1.2))
+        (λ (other : p ≡ place → ⊥). before.in_range p callee (omega arith) has)
+        (cases_eq p place);
+  }
+
+-- all methods
+pub AreCallsInRange-methods : (class : StaticClass) (count : ℕ) → length class.methods ≤ count → AreMethodsInRange class count → AreCallsInRange class
+AreCallsInRange-methods class count past all = record {
+  in_range = λ place pc callee at.
+      let within : place < length class.methods = slice_get_within class.methods place at.0 at.1 in
+      all.in_range place callee (omega arith) (pc, at);
+}

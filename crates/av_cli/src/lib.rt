@@ -3,12 +3,14 @@
 
 mod coverage;
 mod handing;
-mod saying;
 mod lines;
 mod reach;
+mod saying;
 mod status;
+#[cfg(test)]
+mod tests;
 
-pub use coverage::covers_runs;
+pub use coverage::{class_lines, covers_runs, form_keeps_range};
 pub use lines::call_lines;
-pub use reach::{is_main, main_place, reached_methods};
+pub use reach::{are_calls_in_range, is_main, main_place, reached_methods};
 pub use status::{Answer, Status};

@@ -31,6 +31,33 @@ pub fn main_place(class: &StaticClass) -> Option<usize>
     None
 }
 
+/// Whether each call of the code names one of so many places.
+fn are_callees_below(code: &[Placed], count: usize) -> bool
+    ensures { IsTrue result ↔ AreCalleesBelow code.now count }
+{
+    for placed in code {
+        if let Instruction::Call(callee) = placed.instruction {
+            if callee >= count {
+                return false;
+            }
+        }
+    }
+    true
+}
+
+/// Whether each call of a class names a place of its list, as in every class that a file states.
+pub fn are_calls_in_range(class: &StaticClass) -> bool
+    ensures { IsTrue result ↔ AreCallsInRange class.now }
+{
+    let methods = class.methods.as_slice();
+    for method in methods {
+        if !are_callees_below(method.code.as_slice(), methods.len()) {
+            return false;
+        }
+    }
+    true
+}
+
 /// The search for the methods that main reaches: a mark for each place of the class's list, and the
 /// marked places whose calls are still to be followed.
 #[derive(Drop)]

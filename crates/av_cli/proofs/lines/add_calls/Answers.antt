@@ -4,4 +4,4 @@ use Rattle.av_cli.proofs.lines.add_calls.Goals as goal
 pub loop-placed-preserved : goal.loop-placed-preserved
 loop-placed-preserved c =
     AddsLines-more_code c.args.class.now c.args.from.now c.as_slice-placed-items.result.now c.loop-placed.placed-index _ _ _ _ c.loop-placed-test.true
-      c.loop-placed.invariant c.in_ok-add_instruction.ensures
+    c.loop-placed.invariant c.in_ok-add_instruction.ensures

@@ -9,5 +9,5 @@ returns-then-not-is_reached c =
 pub returns : goal.returns
 returns c =
     on_ok_weaker c.add_calls.result
-      (AddsLines-reached c.args.class.now c.args.method.now c.args.is_reached _ _ _ c.if-not-is_reached.false c.in_ok-add_main.ensures)
-      c.add_calls.ensures
+    (AddsLines-reached c.args.class.now c.args.method.now c.args.is_reached _ _ _ c.if-not-is_reached.false c.in_ok-add_main.ensures)
+    c.add_calls.ensures
