@@ -6,3 +6,6 @@ pub mod Answers
 pub mod Handing
 pub mod Ending
 pub mod Graphs
+pub mod Marks
+pub mod Covers
+pub mod Adding
