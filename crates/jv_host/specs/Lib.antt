@@ -1,4 +1,7 @@
 pub mod Counts
+pub mod DirHostState
 pub mod Files
 pub mod HostAnswer
+pub mod MemHostState
+pub mod MemSinkState
 pub mod SinkAnswer
