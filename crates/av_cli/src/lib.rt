@@ -20,3 +20,6 @@ pub use top::run;
 
 #[cfg(test)]
 mod tests;
+
+#[cfg(test)]
+mod top_tests;
