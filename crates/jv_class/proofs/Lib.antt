@@ -5,3 +5,7 @@ pub mod LayoutPool
 pub mod LayoutAttributes
 pub mod LayoutMembers
 pub mod LayoutWhole
+pub mod ClassesSteps
+pub mod ClassesLoops
+pub mod ClassesFields
+pub mod ClassesCode

@@ -3,3 +3,4 @@ pub mod Outlines
 pub mod Form
 pub mod Reading
 pub mod LayoutReading
+pub mod Classes

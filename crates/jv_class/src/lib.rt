@@ -4,6 +4,8 @@
 mod attributes;
 mod layout;
 mod methods;
+mod class_of_pool;
+mod code_content;
 mod number;
 mod outline;
 mod pool;
