@@ -2,7 +2,7 @@
 use Rattle.std.proofs.Common.{◌≡◌, ℕ, zero, suc, ◌+◌, ◌*◌, ◌^◌, ◌<◌, ◌≤◌, Bool, true, false, cond, ltb, List, [], ◌∷◌, ◌++◌, length, get_or, take, drop, Option, Some, None, refl, sym, ap, subst, ◌∙◌, append_assoc, arith, inl, inr}
 use Rattle.std.specs.Int.{w16, w32, from_be_bytes, to_be_bytes}
 use Rattle.std.proofs.lemmas.Bool.{cases_lt, ltb-false, le-ltb}
-use Rattle.std.proofs.lemmas.List.{take_at, drop_at, take-append-drop, length-append, length-take, get_or-drop, get_or-take, get_or_past}
+use Rattle.std.proofs.lemmas.List.{take_at, drop_at, take-append-drop, length-append, length-take, length-drop, get_or-drop, get_or-take, get_or_past}
 use Rattle.std.proofs.lemmas.Nat.{be_bytes_2, be_bytes_4, from_be_bytes-to_be_bytes_2, from_be_bytes-to_be_bytes_4}
 use Rattle.jv_class.specs.Layout.{u2, u4}
 use Rattle.jv_class.specs.Reading.{◌>>=◌, u2_at, u4_at, bytes_at}
@@ -41,7 +41,7 @@ u2_takes bytes x fits e =
     let parts : bytes ≡ u2 (from_be_bytes w16 (take 2 bytes)) ++ drop 2 bytes = sym (take-append-drop 2 bytes) ∙ ap (λ (f : List ℕ). f ++ drop 2 bytes) (sym front) in
     subst (λ (y : ℕ × List ℕ). Takes bytes (u2 y.0) y.1 × (y.0 < 2 ^ 16)) is (record { parts = parts; rest_fits = IsBytes-drop 2 bytes fits }, below)
 
-u2_at_front : (front rest : List ℕ) → length front ≡ 2 → u2_at (front ++ rest) ≡ Some (from_be_bytes w16 front, rest)
+pub u2_at_front : (front rest : List ℕ) → length front ≡ 2 → u2_at (front ++ rest) ≡ Some (from_be_bytes w16 front, rest)
 u2_at_front front rest len =
     let long : ltb (length (front ++ rest)) 2 ≡ false = le-ltb _ _ (omega (arith, length-append front rest)) in
     rw (long, take_at front rest 2 len, drop_at front rest 2 len) refl
@@ -79,3 +79,9 @@ pub bytes_again : (text rest : List ℕ) → bytes_at (text ++ rest) (length tex
 bytes_again text rest =
     let long : ltb (length (text ++ rest)) (length text) ≡ false = le-ltb _ _ (omega (arith, length-append text rest)) in
     rw (long, take_at text rest (length text) refl, drop_at text rest (length text) refl) refl
+
+pub u2_shorter : (bytes : List ℕ) (x : ℕ × List ℕ) → u2_at bytes ≡ Some x → length x.1 ≤ length bytes
+u2_shorter bytes x e =
+    let g = guard_some (ltb (length bytes) 2) (Some (from_be_bytes w16 (take 2 bytes), drop 2 bytes)) x e in
+    let is = some_is (from_be_bytes w16 (take 2 bytes), drop 2 bytes) x g.1 in
+    subst (λ (y : ℕ × List ℕ). length y.1 ≤ length bytes) is (omega (arith, length-drop 2 bytes))

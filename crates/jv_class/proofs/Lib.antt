@@ -9,3 +9,6 @@ pub mod ClassesSteps
 pub mod ClassesLoops
 pub mod ClassesFields
 pub mod ClassesCode
+pub mod ClassesTurns
+pub mod ClassesInstructions
+pub mod ClassesPool

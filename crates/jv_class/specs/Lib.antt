@@ -4,3 +4,5 @@ pub mod Form
 pub mod Reading
 pub mod LayoutReading
 pub mod Classes
+pub mod ClassesBodies
+pub mod ClassesHeads

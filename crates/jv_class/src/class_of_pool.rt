@@ -6,6 +6,7 @@ use crate::outline::Entry;
 use jv_types::Name;
 
 /// A method that an index of the pool names.
+#[derive(Clone, Copy)]
 pub struct Target<'a> {
     pub class: &'a Name,
     pub name: &'a Name,

@@ -4,8 +4,11 @@
 mod attributes;
 mod layout;
 mod methods;
+mod class_of_heads;
+mod class_of_kinds;
 mod class_of_pool;
 mod code_content;
+mod code_steps;
 mod number;
 mod outline;
 mod pool;
