@@ -30,8 +30,8 @@ Decides-return op = Decides-or (eqb op 172) (eqb op 177) (Decides-eqb op 172) (D
 
 -- what a table of callees has is what the pool names
 pub record KnowsCallees (pool : List Entry) (class : StaticClass) (callee : ℕ → Option ℕ) : Type 0 where
-  pub sound : (i place : ℕ) → callee i ≡ Some place → IsCallee pool class i place
-  pub complete : (i place : ℕ) → IsCallee pool class i place → callee i ≡ Some place
+  pub sound : (i place : ℕ) → i < 2 ^ 16 → callee i ≡ Some place → IsCallee pool class i place
+  pub complete : (i place : ℕ) → i < 2 ^ 16 → IsCallee pool class i place → callee i ≡ Some place
 
 -- two bytes are bytes
 two_bytes : (b c : ℕ) → b < 256 → c < 256 → IsBytes (b ∷ c ∷ [])
@@ -81,7 +81,7 @@ instructions_take pool class callee knows pc (op ∷ b ∷ c ∷ rest) list fits
           let later = instructions_take pool class callee knows (pc + 3) rest d.0 rest_fits d.1 in
           let small : index < 2 ^ 16 = omega (arith, fits 1, fits 2) in
           let spelled : u2 index ≡ b ∷ c ∷ [] = be_bytes_2 (b ∷ c ∷ []) index refl (two_bytes b c (fits 1) (fits 2)) refl in
-          let whole = call_first pool class pc index p.0 rest d.0 small (knows.sound index p.0 p.1) later in
+          let whole = call_first pool class pc index p.0 rest d.0 small (knows.sound index p.0 small p.1) later in
           let bytes : 184 ∷ u2 index ++ rest ≡ op ∷ b ∷ c ∷ rest = ap (λ (x : List ℕ). 184 ∷ x ++ rest) spelled ∙ ap (λ (o : ℕ). o ∷ b ∷ c ∷ rest) (sym (eqb-true op 184 a.0)) in
           subst (AreInstructions pool class pc (op ∷ b ∷ c ∷ rest)) (some_is (call ∷ d.0) list d.2) (subst (λ (x : List ℕ). AreInstructions pool class pc x (call ∷ d.0)) bytes whole)
     ]
@@ -116,7 +116,7 @@ step_again pool class callee knows pc Plain front rest others h e =
     ap (λ (f : List ℕ). placed_from callee pc (f ++ rest)) h.1 ∙ plain_again callee pc h.0 rest others ((Decides-plain h.0).1 h.2) later
 step_again pool class callee knows pc (Call place) front rest others h e =
     let later : placed_from callee (pc + 3) rest ≡ Some others = ap (λ (f : List ℕ). placed_from callee (pc + length f) rest) (sym h.2) ∙ e in
-    ap (λ (f : List ℕ). placed_from callee pc (f ++ rest)) h.2 ∙ call_again callee pc h.0 place rest others h.1 (knows.complete h.0 place h.3) later
+    ap (λ (f : List ℕ). placed_from callee pc (f ++ rest)) h.2 ∙ call_again callee pc h.0 place rest others h.1 (knows.complete h.0 place h.1 h.3) later
 step_again pool class callee knows pc Return front rest others h e = absurd h
 
 pub instructions_again : (pool : List Entry) (class : StaticClass) (callee : ℕ → Option ℕ) → KnowsCallees pool class callee → (pc : ℕ) (bytes : List ℕ) (list : List Placed)

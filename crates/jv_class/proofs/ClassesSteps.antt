@@ -1,5 +1,6 @@
 -- Steps of functions that give a value or nothing.
 use Rattle.std.proofs.Common.{◌≡◌, ◌⊎◌, inl, inr, Bool, true, false, cond, Option, Some, None, refl, arith}
+use Rattle.std.specs.Option.{is_some}
 use Rattle.jv_class.specs.Reading.{◌>>=◌}
 
 -- the value of a step that gave one
@@ -24,3 +25,11 @@ some_is x y e = cc
 pub chosen : {A : Type 0} (b : Bool) (x y z : A) → cond b x y ≡ z → ((b ≡ true) × (x ≡ z)) ⊎ ((b ≡ false) × (y ≡ z))
 chosen true x y z e = inl (refl, e)
 chosen false x y z e = inr (refl, e)
+
+pub some_value : {A : Type 0} (o : Option A) → is_some o ≡ true → (x : A) × (o ≡ Some x)
+some_value None e = absurd cc
+some_value (Some x) e = (x, refl)
+
+pub none_value : {A : Type 0} (o : Option A) → is_some o ≡ false → o ≡ None
+none_value None e = refl
+none_value (Some x) e = absurd cc

@@ -12,3 +12,4 @@ pub mod ClassesCode
 pub mod ClassesTurns
 pub mod ClassesInstructions
 pub mod ClassesPool
+pub mod ClassesPlaces

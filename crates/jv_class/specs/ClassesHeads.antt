@@ -93,11 +93,15 @@ static_at hs place = do
   h ← slice_get hs place
   if has_static h.access then Some place else None
 
+-- the place of the static method with this name and descriptor
+abbrev pub static_of : List Heading → List ℕ → List ℕ → Option ℕ
+static_of hs name desc = place_of hs name desc >>= static_at hs
+
 -- the place of the static method of this class that an index of the pool names
 unfoldable pub callee_of : List Entry → List ℕ → List Heading → ℕ → Option ℕ
 callee_of pool class hs i = do
   named ← named_at pool i
-  if bytes_eq named.class class then (place_of hs named.name named.desc >>= static_at hs) else None
+  if bytes_eq named.class class then static_of hs named.name named.desc else None
 
 -- ---- the methods of the class
 

@@ -6,3 +6,4 @@ pub mod LayoutReading
 pub mod Classes
 pub mod ClassesBodies
 pub mod ClassesHeads
+pub mod ClassesPlaces
