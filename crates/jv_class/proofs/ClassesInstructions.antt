@@ -17,7 +17,7 @@ use Rattle.jv_class.specs.ClassesBodies.{is_plain, is_return, before, placed_fro
 use Rattle.jv_class.proofs.ClassesSteps.{bind_some, chosen_some, chosen, some_is}
 use Rattle.jv_class.proofs.ClassesFields.{IsBytes-tail}
 
-Decides-leb : (a b : ℕ) → Decides (leb a b) (a ≤ b)
+pub Decides-leb : (a b : ℕ) → Decides (leb a b) (a ≤ b)
 Decides-leb a b = (λ e. grind (arith, nat_tests), λ h. grind (arith, nat_tests))
 
 Decides-plain : (op : ℕ) → Decides (is_plain op) (IsPlainOpcode op)

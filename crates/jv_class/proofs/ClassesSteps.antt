@@ -1,7 +1,9 @@
 -- Steps of functions that give a value or nothing.
-use Rattle.std.proofs.Common.{◌≡◌, ◌⊎◌, inl, inr, Bool, true, false, cond, Option, Some, None, refl, arith}
+use Rattle.std.proofs.Common.{◌≡◌, ◌⊎◌, inl, inr, Bool, true, false, cond, Option, Some, None, Result, Err, subst, refl, arith}
 use Rattle.std.specs.Option.{is_some}
-use Rattle.jv_class.specs.Reading.{◌>>=◌}
+use Rattle.jv_class.specs.declared.read_error.ReadError.{ReadError}
+use Rattle.jv_class.specs.declared.read_error.ReadError.TheVariants as errors
+use Rattle.jv_class.specs.Reading.{◌>>=◌, Fails}
 
 -- the value of a step that gave one
 pub bind_some : {A B : Type 0} (o : Option A) (f : A → Option B) (y : B) → (o >>= f) ≡ Some y → (x : A) × (o ≡ Some x) × (f x ≡ Some y)
@@ -33,3 +35,10 @@ some_value (Some x) e = (x, refl)
 pub none_value : {A : Type 0} (o : Option A) → is_some o ≡ false → o ≡ None
 none_value None e = refl
 none_value (Some x) e = absurd cc
+
+-- an error that was passed on is the one that came
+pub err_is : {X : Type 0} (r : Result X ReadError) (y e : ReadError) → r ≡ Err y → y ≡ e → r ≡ Err errors.Malformed → e ≡ errors.Malformed
+err_is r y e p q h = cc
+
+pub failed_read : {X Y : Type 0} (r : Result X ReadError) (y e : ReadError) (read : Option Y) → r ≡ Err y → y ≡ e → r ≡ Err errors.Malformed → Fails e read → read ≡ None
+failed_read r y e read p q h fails = subst (λ (x : ReadError). Fails x read) (err_is r y e p q h) fails

@@ -13,3 +13,7 @@ pub mod ClassesTurns
 pub mod ClassesInstructions
 pub mod ClassesPool
 pub mod ClassesPlaces
+pub mod ClassesKinds
+pub mod ClassesMethods
+pub mod ClassesCallees
+pub mod ClassesOutline

@@ -7,3 +7,4 @@ pub mod Classes
 pub mod ClassesBodies
 pub mod ClassesHeads
 pub mod ClassesPlaces
+pub mod ClassesOutline

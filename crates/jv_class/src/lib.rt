@@ -8,6 +8,7 @@ mod class_of_callees;
 mod class_of_heads;
 mod class_of_kinds;
 mod class_of_methods;
+mod class_of_outline;
 mod class_of_pool;
 mod code_content;
 mod code_steps;
