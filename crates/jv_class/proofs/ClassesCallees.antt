@@ -1,17 +1,15 @@
 -- What names a method of the class depends on the methods' flags, names and descriptors alone.
-use Rattle.std.proofs.Common.{◌≡◌, ℕ, zero, suc, ◌^◌, ◌<◌, Bool, true, false, cond, List, [], ◌∷◌, length, Option, Some, None, refl, sym, ap, subst, ◌∙◌, arith}
+use Rattle.std.proofs.Common.{◌≡◌, ℕ, zero, suc, ◌^◌, ◌<◌, true, cond, List, [], ◌∷◌, Option, Some, None, refl, sym, ap, subst, ◌∙◌}
 use Rattle.std.specs.List.{slice_get, AllZip}
 use Rattle.std.specs.Str.{bytes_eq}
 use Rattle.std.proofs.lemmas.Option.{none-some}
 use Rattle.std.proofs.lemmas.Slice.Eq.{bytes_eq-Decides}
-use Rattle.jv_types.specs.declared.access.Access.{Access}
 use Rattle.jv_class.specs.declared.outline.Entry.{Entry}
 use Rattle.jv_class.specs.declared.static_class.Method.{Method}
 use Rattle.jv_class.specs.declared.static_class.StaticClass.{StaticClass}
 use Rattle.jv_class.specs.Outlines.{IsMethodrefAt}
 use Rattle.jv_class.specs.Form.{IsStatic, IsCallee, AreDistinct}
-use Rattle.jv_class.specs.Reading.{◌>>=◌}
-use Rattle.jv_class.specs.Classes.{Named, named_at}
+use Rattle.jv_class.specs.Classes.{named_at}
 use Rattle.jv_class.specs.ClassesHeads.{Heading, has_static, place_of, static_at, static_of, callee_of}
 use Rattle.jv_class.specs.ClassesPlaces.{AreApart}
 use Rattle.jv_class.proofs.ClassesSteps.{bind_some, chosen_some, some_is}

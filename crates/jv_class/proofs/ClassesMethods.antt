@@ -1,30 +1,27 @@
 -- The methods that are read are those of the file, and those of the file are read.
-use Rattle.std.proofs.Common.{◌≡◌, ℕ, zero, suc, ◌+◌, ◌^◌, ◌<◌, Bool, true, false, cond, eqb, ◌&&◌, List, [], ◌∷◌, ◌++◌, length, Option, Some, None, refl, sym, ap, subst, ◌∙◌, append_assoc, arith, inl, inr, ◌⊎◌, ⊎_elim, Decides, codes}
-use Rattle.std.specs.Int.{w16, from_be_bytes, to_be_bytes}
-use Rattle.std.specs.Str.{bytes_eq}
+use Rattle.std.proofs.Common.{◌≡◌, ℕ, ◌^◌, ◌<◌, Bool, true, false, cond, eqb, ◌&&◌, List, [], ◌∷◌, ◌++◌, length, Option, Some, None, refl, sym, ap, subst, ◌∙◌, append_assoc, inl, inr, ◌⊎◌, codes}
 use Rattle.std.proofs.lemmas.Bool.{eqb-true, false≢true}
 use Rattle.std.proofs.lemmas.Bool.Decides.{Decides-eqb}
-use Rattle.std.proofs.lemmas.List.{nil_from_length, append-nil, take_at, drop_at}
-use Rattle.std.proofs.lemmas.Nat.{from_be_bytes-to_be_bytes_2}
+use Rattle.std.proofs.lemmas.List.{nil_from_length, take_at, drop_at}
 use Rattle.jv_types.specs.declared.access.Access.{Access}
 use Rattle.jv_class.specs.declared.outline.Entry.{Entry}
 use Rattle.jv_class.specs.declared.outline.RawMethod.{RawMethod}
 use Rattle.jv_class.specs.declared.static_class.Placed.{Placed}
 use Rattle.jv_class.specs.declared.static_class.Method.{Method}
 use Rattle.jv_class.specs.declared.static_class.StaticClass.{StaticClass}
-use Rattle.jv_class.specs.Layout.{u2, u4, attributes_text, Code, code_text, IsCode}
+use Rattle.jv_class.specs.Layout.{u2, u4, attributes_text, Code, code_text}
 use Rattle.jv_class.specs.Outlines.{IsUtf8At, IsMethodrefAt}
-use Rattle.jv_class.specs.Form.{IsVisible, IsStatic, IsWordDesc, main_desc, AreInstructions, IsStaticMethod, IsConstructor, IsMethodOf}
+use Rattle.jv_class.specs.Form.{IsVisible, AreInstructions, IsStaticMethod, IsConstructor, IsMethodOf}
 use Rattle.jv_class.specs.Reading.{◌>>=◌, u1_at, u2_at}
 use Rattle.jv_class.specs.Classes.{IsBytes, text_at, named_at, code_of}
 use Rattle.jv_class.specs.ClassesBodies.{placed_from, constructor_index, is_object_init, constructor_code}
 use Rattle.jv_class.specs.ClassesHeads.{is_visible, has_static, is_known, Heading, heading_at, body_at, method_at}
-use Rattle.jv_class.proofs.ClassesSteps.{bind_some, chosen_some, chosen, some_is}
-use Rattle.jv_class.proofs.ClassesFields.{Takes, Takes-then, IsBytes-tail, IsBytes-drop, IsBytes-take, u2_takes, u2_again}
-use Rattle.jv_class.proofs.ClassesCode.{HasCode, code_takes, code_again}
+use Rattle.jv_class.proofs.ClassesSteps.{bind_some, chosen_some, some_is}
+use Rattle.jv_class.proofs.ClassesFields.{IsBytes-tail, IsBytes-drop, IsBytes-take, u2_takes, u2_again}
+use Rattle.jv_class.proofs.ClassesCode.{code_takes, code_again}
 use Rattle.jv_class.proofs.ClassesInstructions.{KnowsCallees, instructions_take, instructions_again}
 use Rattle.jv_class.proofs.ClassesPool.{text_takes, text_again, is_named_takes, is_named_again}
-use Rattle.jv_class.proofs.ClassesKinds.{both_true, two_true, three_true, all_true, not_true, Decides-visible, Decides-static, IsStaticKind, IsConstructorKind, known_takes, static_kind_again, constructor_kind_again}
+use Rattle.jv_class.proofs.ClassesKinds.{both_true, three_true, Decides-visible, Decides-static, IsStaticKind, IsConstructorKind, known_takes, static_kind_again, constructor_kind_again}
 
 -- ---- a method's texts
 

@@ -1,7 +1,6 @@
 -- What is read of an outline is its class, and the class of an outline is read.
-use Rattle.std.proofs.Common.{◌≡◌, ℕ, zero, suc, ◌^◌, ◌<◌, ◌≤◌, Bool, true, false, leb, ◌&&◌, List, [], ◌∷◌, length, map, Option, Some, None, refl, sym, ap, subst, ◌∙◌, arith, Decides, All, codes}
+use Rattle.std.proofs.Common.{◌≡◌, ℕ, ◌^◌, ◌<◌, ◌≤◌, true, false, leb, ◌&&◌, List, [], ◌∷◌, map, Option, Some, None, refl, sym, ap, subst, ◌∙◌, All, codes}
 use Rattle.std.specs.List.{AllZip, AllByRecursion}
-use Rattle.std.specs.Str.{bytes_eq}
 use Rattle.std.proofs.lemmas.Bool.{false≢true}
 use Rattle.std.proofs.lemmas.Option.{none-some}
 use Rattle.std.proofs.lemmas.Slice.Eq.{bytes_eq-Decides}
@@ -16,7 +15,6 @@ use Rattle.jv_class.specs.Outlines.{IsClassAt}
 use Rattle.jv_class.specs.Form.{IsVisible, IsMethodOf, IsClassOf}
 use Rattle.jv_class.specs.Reading.{◌>>=◌}
 use Rattle.jv_class.specs.Classes.{IsBytes, class_at}
-use Rattle.jv_class.specs.ClassesBodies.{callee_in}
 use Rattle.jv_class.specs.ClassesHeads.{is_visible, Heading, heading_of, headings_of, heading_at, headings_at, each, callee_of, method_at}
 use Rattle.jv_class.specs.ClassesPlaces.{AreApart}
 use Rattle.jv_class.specs.ClassesOutline.{is_text, is_class_named, is_framed}
@@ -24,7 +22,7 @@ use Rattle.jv_class.proofs.ClassesSteps.{bind_some, some_is}
 use Rattle.jv_class.proofs.ClassesInstructions.{KnowsCallees, Decides-leb}
 use Rattle.jv_class.proofs.ClassesPool.{class_takes, class_again, bytes_eq_itself}
 use Rattle.jv_class.proofs.ClassesKinds.{both_true, two_true, three_true, Decides-visible}
-use Rattle.jv_class.proofs.ClassesMethods.{IsHeading, heading_takes, method_takes, heading_for, heading_for_again, method_again, method_same}
+use Rattle.jv_class.proofs.ClassesMethods.{heading_takes, method_takes, heading_for, heading_for_again, method_again, method_same}
 use Rattle.jv_class.proofs.ClassesCallees.{SameHead, apart_from_distinct, distinct_from_apart, callees_known}
 
 -- ---- what stands around the methods

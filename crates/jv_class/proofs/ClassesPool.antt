@@ -1,16 +1,16 @@
 -- What the indices of a pool name, as functions and as relations.
-use Rattle.std.proofs.Common.{◌≡◌, ℕ, zero, suc, ◌+◌, ◌^◌, ◌<◌, Bool, true, false, cond, eqb, ◌&&◌, List, [], ◌∷◌, ◌++◌, length, Option, Some, None, refl, sym, ap, subst, ◌∙◌, arith, Decides, codes}
+use Rattle.std.proofs.Common.{◌≡◌, ℕ, true, ◌&&◌, List, Option, Some, None, refl, ap, subst, ◌∙◌}
 use Rattle.std.specs.List.{slice_get}
 use Rattle.std.specs.Str.{bytes_eq}
 use Rattle.std.proofs.lemmas.Slice.Eq.{bytes_eq-Decides}
-use Rattle.std.proofs.lemmas.Bool.Decides.{Decides-and, Decides-eqb}
+use Rattle.std.proofs.lemmas.Bool.Decides.{Decides-and}
 use Rattle.jv_class.specs.declared.outline.Entry.{Entry}
 use Rattle.jv_class.specs.declared.outline.Entry.TheVariants.{Utf8, Class, Methodref, NameAndType, Unused}
 use Rattle.jv_class.specs.Outlines.{IsUtf8At, IsClassAt, IsMethodrefAt}
 use Rattle.jv_class.specs.Reading.{◌>>=◌}
 use Rattle.jv_class.specs.Classes.{text_of, class_name_of, method_of, pair_of, text_at, class_at, pair_at, named_at, Named}
-use Rattle.jv_class.specs.ClassesBodies.{is_named, is_object_init}
-use Rattle.jv_class.proofs.ClassesSteps.{bind_some, chosen_some, some_is}
+use Rattle.jv_class.specs.ClassesBodies.{is_named}
+use Rattle.jv_class.proofs.ClassesSteps.{bind_some, some_is}
 
 text_entry : (e : Entry) (t : List ℕ) → text_of e ≡ Some t → e ≡ Utf8 t
 text_entry (Utf8 text) t e = ap Utf8 (some_is text t e)

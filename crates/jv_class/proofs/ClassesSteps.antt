@@ -1,5 +1,5 @@
 -- Steps of functions that give a value or nothing.
-use Rattle.std.proofs.Common.{◌≡◌, ◌⊎◌, inl, inr, Bool, true, false, cond, Option, Some, None, Result, Err, subst, refl, arith}
+use Rattle.std.proofs.Common.{◌≡◌, ◌⊎◌, inl, inr, Bool, true, false, cond, Option, Some, None, Result, Err, subst, refl}
 use Rattle.std.specs.Option.{is_some}
 use Rattle.jv_class.specs.declared.read_error.ReadError.{ReadError}
 use Rattle.jv_class.specs.declared.read_error.ReadError.TheVariants as errors

@@ -1,14 +1,13 @@
 -- One turn of the loop over the instructions of a code.
-use Rattle.std.proofs.Common.{◌≡◌, ℕ, zero, suc, ◌-◌, ◌+◌, ◌≤◌, ◌<◌, Bool, true, false, cond, eqb, List, [], ◌∷◌, ◌++◌, length, Option, Some, None, refl, sym, ap, subst, ◌∙◌, append_assoc, arith, inl, inr, ◌⊎◌}
+use Rattle.std.proofs.Common.{◌≡◌, ℕ, suc, ◌-◌, ◌+◌, ◌≤◌, ◌<◌, Bool, true, false, cond, eqb, List, [], ◌∷◌, ◌++◌, length, Option, Some, None, refl, sym, ap, subst, ◌∙◌, append_assoc, arith, inl, inr}
 use Rattle.std.specs.Int.{w16, from_be_bytes}
-use Rattle.std.proofs.lemmas.List.{append-nil}
 use Rattle.jv_class.specs.declared.read_error.ReadError.{ReadError}
 use Rattle.jv_class.specs.declared.read_error.ReadError.TheVariants as errors
 use Rattle.jv_class.specs.declared.static_class.Instruction.{Instruction}
 use Rattle.jv_class.specs.declared.static_class.Instruction.TheVariants.{Plain, Call, Return}
 use Rattle.jv_class.specs.declared.static_class.Placed.{Placed}
 use Rattle.jv_class.specs.Reading.{◌>>=◌, Fails, u2_at}
-use Rattle.jv_class.specs.ClassesBodies.{is_plain, is_return, is_last, step_at, before, placed_from}
+use Rattle.jv_class.specs.ClassesBodies.{is_plain, is_last, step_at, before, placed_from}
 use Rattle.jv_class.proofs.ClassesSteps.{bind_some, chosen_some, chosen, some_is}
 use Rattle.jv_class.proofs.ClassesFields.{u2_at_front, u2_shorter}
 use Rattle.jv_class.proofs.ClassesLoops.{with_front}

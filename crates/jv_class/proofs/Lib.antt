@@ -17,3 +17,4 @@ pub mod ClassesKinds
 pub mod ClassesMethods
 pub mod ClassesCallees
 pub mod ClassesOutline
+pub mod ClassesFile

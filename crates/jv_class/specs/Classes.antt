@@ -1,6 +1,6 @@
 -- What the indices of a constant pool name, and the content of an attribute Code, by functions on lists
 -- that give a value or nothing. The reader is proved to give what these functions give.
-use Rattle.std.specs.Prelude.{◌≡◌, ℕ, zero, suc, ◌*◌, ◌<◌, List, [], ◌∷◌, length, slice_index, Bool, true, false, ◌||◌, ◌==◌, nat_lt, Option, Some, None, option_map, if◌then◌else◌}
+use Rattle.std.specs.Prelude.{ℕ, zero, suc, ◌*◌, ◌<◌, List, length, slice_index, ◌||◌, ◌==◌, nat_lt, Option, Some, None, if◌then◌else◌}
 use Rattle.std.specs.List.{slice_get}
 use Rattle.std.specs.Borrow.{Bor}
 use Rattle.jv_class.specs.declared.outline.Entry.{Entry}

@@ -1,6 +1,6 @@
 -- The methods of a file with the texts of their names and descriptors, and the class that they make, by
 -- functions on lists that give a value or nothing.
-use Rattle.std.specs.Prelude.{◌≡◌, ℕ, zero, suc, ◌+◌, ◌-◌, List, [], ◌∷◌, ◌++◌, length, take, drop, Bool, true, false, not, ◌&&◌, ◌||◌, ◌==◌, nat_le, Option, Some, None, option_map, codes, if◌then◌else◌, bit_and, map}
+use Rattle.std.specs.Prelude.{ℕ, suc, ◌-◌, List, [], ◌∷◌, length, take, drop, Bool, false, not, ◌&&◌, ◌||◌, ◌==◌, nat_le, Option, Some, None, option_map, codes, if◌then◌else◌, bit_and, map}
 use Rattle.std.specs.List.{slice_get, list_all}
 use Rattle.std.specs.Str.{bytes_eq}
 use Rattle.jv_types.specs.declared.access.Access.{Access}
@@ -11,7 +11,7 @@ use Rattle.jv_class.specs.declared.static_class.Placed.{Placed}
 use Rattle.jv_class.specs.declared.static_class.Method.{Method}
 use Rattle.jv_class.specs.Form.{main_desc}
 use Rattle.jv_class.specs.Reading.{◌>>=◌}
-use Rattle.jv_class.specs.Classes.{Named, text_at, named_at, code_of}
+use Rattle.jv_class.specs.Classes.{text_at, named_at, code_of}
 use Rattle.jv_class.specs.ClassesBodies.{placed_from, constructor_code}
 
 -- visible ASCII and no percent sign

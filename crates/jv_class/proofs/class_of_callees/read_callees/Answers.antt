@@ -1,5 +1,5 @@
 -- Each turn of the loop is one index.
-use Rattle.std.proofs.Common.{◌≡◌, ℕ, ◌+◌, ◌<◌, length, ◌∙◌, ap, arith}
+use Rattle.std.proofs.Common.{◌≡◌, ℕ, ◌+◌, length, ◌∙◌, ap, arith}
 use Rattle.std.proofs.lemmas.List.{length_push}
 use Rattle.jv_class.specs.ClassesHeads.{headings_of, callee_of}
 use Rattle.jv_class.proofs.ClassesPlaces.{table_push, table_done}

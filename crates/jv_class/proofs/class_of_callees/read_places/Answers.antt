@@ -1,9 +1,9 @@
 -- Each turn of the loop is one method.
-use Rattle.std.proofs.Common.{◌≡◌, ◌∙◌, sym, ap, Some, None}
+use Rattle.std.proofs.Common.{◌∙◌, sym, ap}
 use Rattle.std.specs.Map.{lookup}
 use Rattle.std.specs.BTreeMap.{is_at}
 use Rattle.jv_class.specs.declared.class_of_callees.MethodKey.{MethodKey}
-use Rattle.jv_class.specs.ClassesHeads.{headings_of, place_of}
+use Rattle.jv_class.specs.ClassesHeads.{place_of}
 use Rattle.jv_class.specs.ClassesPlaces.{key_cmp}
 use Rattle.jv_class.proofs.ClassesSteps.{some_value, none_value}
 use Rattle.jv_class.proofs.ClassesPlaces.{apart_none, found_twice, places_more, apart_more}

@@ -1,5 +1,5 @@
 -- Each turn of the loop is one method.
-use Rattle.std.proofs.Common.{◌≡◌, take, All, subst}
+use Rattle.std.proofs.Common.{All, subst}
 use Rattle.std.proofs.lemmas.Result.{err_from_is_err_and}
 use Rattle.std.proofs.lemmas.List.{take_all}
 use Rattle.std.proofs.lemmas.List.Elements.{All-more}

@@ -1,5 +1,5 @@
 -- Each step that fails says that there is no class, and what all of them found is the class.
-use Rattle.std.proofs.Common.{◌≡◌, ◌<◌, ◌^◌, ◌∙◌, sym, ap, subst, List, ℕ, Option, Some, None, Err, All}
+use Rattle.std.proofs.Common.{◌≡◌, ◌∙◌, sym, ap, subst, List, ℕ, Option, Some, None, Err, All}
 use Rattle.std.proofs.lemmas.Result.{err_from_is_err_and}
 use Rattle.jv_class.specs.declared.outline.Entry.{Entry}
 use Rattle.jv_class.specs.declared.outline.RawMethod.{RawMethod}
@@ -7,7 +7,7 @@ use Rattle.jv_class.specs.declared.class_of_heads.Head.{Head}
 use Rattle.jv_class.specs.declared.static_class.Method.{Method}
 use Rattle.jv_class.specs.Classes.{IsBytes}
 use Rattle.jv_class.specs.ClassesBodies.{callee_in}
-use Rattle.jv_class.specs.ClassesHeads.{Heading, heading_of, headings_of, headings_at, each, callee_of, method_at}
+use Rattle.jv_class.specs.ClassesHeads.{Heading, heading_of, headings_of, headings_at, each, method_at}
 use Rattle.jv_class.specs.ClassesPlaces.{AreApart}
 use Rattle.jv_class.proofs.ClassesSteps.{err_is, failed_read}
 use Rattle.jv_class.proofs.ClassesOutline.{Agrees, class_found, unframed, unnamed, apart_in_class, unread}

@@ -1,5 +1,5 @@
 -- Each turn of the loop is one instruction.
-use Rattle.std.proofs.Common.{◌≡◌, ◌-◌, ◌+◌, ◌<◌, ◌≤◌, length, true, false, arith, rules, sym, ap, ◌∙◌}
+use Rattle.std.proofs.Common.{◌-◌, length, arith, sym, ◌∙◌}
 use Rattle.std.proofs.lemmas.Result.{err_from_is_err_and}
 use Rattle.jv_class.specs.ClassesBodies.{callee_in, placed_from}
 use Rattle.jv_class.proofs.ClassesTurns.{steps_go_on, steps_end, steps_refused, steps_done, step_shorter}
