@@ -5,3 +5,16 @@ pub mod LayoutPool
 pub mod LayoutAttributes
 pub mod LayoutMembers
 pub mod LayoutWhole
+pub mod ClassesSteps
+pub mod ClassesLoops
+pub mod ClassesFields
+pub mod ClassesCode
+pub mod ClassesTurns
+pub mod ClassesInstructions
+pub mod ClassesPool
+pub mod ClassesPlaces
+pub mod ClassesKinds
+pub mod ClassesMethods
+pub mod ClassesCallees
+pub mod ClassesOutline
+pub mod ClassesFile

@@ -1,0 +1,77 @@
+ghost use Rattle.std.specs.Prelude.{◌≡◌};
+ghost use Rattle.jv_class.specs.Reading.{Gives};
+ghost use Rattle.jv_class.specs.Classes.{after_attribute, after_attributes, after_counted, code_bytes_at, handlers_at, code_of, IsBytes};
+
+use crate::number::{read_bytes, read_u2, read_u4};
+use crate::read_error::ReadError;
+
+/// What follows an attribute (JVMS 4.7).
+#[tactic(auto, unfolding(crate::specs::Classes::after_attribute))]
+fn pass_attribute(bytes: &[u8]) -> Result<&[u8], ReadError>
+    ensures { Gives (λ x. x.now) result (after_attribute bytes.now) }
+{
+    let (_name, rest) = read_u2(bytes)?;
+    let (size, rest) = read_u4(rest)?;
+    let (_content, rest) = read_bytes(rest, size as usize)?;
+    Ok(rest)
+}
+
+/// What follows as many attributes.
+fn pass_attributes(count: u16, bytes: &[u8]) -> Result<&[u8], ReadError>
+    ensures { Gives (λ x. x.now) result (after_attributes count bytes.now) }
+{
+    let mut rest = bytes;
+    for _ in 0..count {
+        rest = pass_attribute(rest)?;
+    }
+    Ok(rest)
+}
+
+/// What follows a count and as many attributes.
+#[tactic(auto, unfolding(crate::specs::Classes::after_counted))]
+fn pass_counted(bytes: &[u8]) -> Result<&[u8], ReadError>
+    ensures { Gives (λ x. x.now) result (after_counted bytes.now) }
+{
+    let (count, rest) = read_u2(bytes)?;
+    pass_attributes(count, rest)
+}
+
+/// A code of 1 to 65535 bytes, and what follows it.
+#[tactic(auto, unfolding(crate::specs::Classes::code_bytes_at))]
+fn read_code_bytes(bytes: &[u8]) -> Result<(&[u8], &[u8]), ReadError>
+    ensures { Gives (λ x. (x.0.now, x.1.now)) result (code_bytes_at bytes.now) }
+{
+    let (size, rest) = read_u4(bytes)?;
+    if size == 0 || size > 65535 {
+        return Err(ReadError::Malformed);
+    }
+    read_bytes(rest, size as usize)
+}
+
+/// How many handlers there are, each of which takes eight bytes, and what follows them.
+#[tactic(auto, unfolding(crate::specs::Classes::handlers_at))]
+fn pass_handlers(bytes: &[u8]) -> Result<(u16, &[u8]), ReadError>
+    ensures { Gives (λ x. (x.0, x.1.now)) result (handlers_at bytes.now) }
+{
+    let (count, rest) = read_u2(bytes)?;
+    let (_handlers, rest) = read_bytes(rest, 8 * usize::from(count))?;
+    Ok((count, rest))
+}
+
+/// The code that the content of an attribute `Code` has, and the number of its handlers (JVMS 4.7.3).
+/// No byte may follow.
+#[tactic(auto, unfolding(crate::specs::Classes::code_of))]
+pub fn read_code(content: &[u8]) -> Result<(&[u8], u16), ReadError>
+    ensures gives { Gives (λ x. (x.0.now, x.1)) result (code_of content.now) }
+    ensures bytes { IsBytes content.now }
+{
+    let (_max_stack, rest) = read_u2(content)?;
+    let (_max_locals, rest) = read_u2(rest)?;
+    let (code, rest) = read_code_bytes(rest)?;
+    let (handler_count, rest) = pass_handlers(rest)?;
+    let rest = pass_counted(rest)?;
+    if !rest.is_empty() {
+        return Err(ReadError::Malformed);
+    }
+    Ok((code, handler_count))
+}
