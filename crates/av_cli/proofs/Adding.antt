@@ -1,12 +1,11 @@
 -- Adding lines to a set: one line, one after another, and none.
-use Rattle.std.proofs.Common.{◌≡◌, ℕ, ◌+◌, ◌<◌, ◌≤◌, ◌⊎◌, Bool, true, false, cond, IsTrue, List, [], ◌∷◌, length, get_or, take, Contains, Some, None, refl, sym, ◌∙◌, ap, inl, inr, ⊎_elim, arith}
+use Rattle.std.proofs.Common.{◌≡◌, ℕ, ◌+◌, ◌<◌, ◌≤◌, ◌⊎◌, Bool, true, false, List, [], length, get_or, take, Contains, Some, None, refl, sym, ◌∙◌, ap, inl, inr, ⊎_elim, arith}
 use Rattle.std.specs.Ordering.{nat_cmp}
 use Rattle.std.specs.Cmp.Lexicographic.{slice_cmp, nat_list_cmp_total}
 use Rattle.std.specs.BTreeMap.{is_at}
 use Rattle.std.specs.BTreeSet.{BTreeSet, IsOrdered, contains, Updates}
 use Rattle.std.specs.List.{slice_get}
-use Rattle.std.proofs.lemmas.Bool.{cases_Bool, cases_lt, cond-true, cond-false, false≢true}
-use Rattle.std.proofs.lemmas.List.{take_all}
+use Rattle.std.proofs.lemmas.Bool.{cases_Bool, cases_lt, cond-true, false≢true}
 use Rattle.std.proofs.lemmas.Option.{slice_get_within, same_Some, none-some}
 use Rattle.std.proofs.lemmas.Map.Keys.{Less-from_sorted}
 use Rattle.std.proofs.lemmas.Map.Lookups.{exact_bytes}
@@ -15,10 +14,9 @@ use Rattle.jv_class.specs.declared.static_class.Instruction.TheVariants.{Call}
 use Rattle.jv_class.specs.declared.static_class.Method.{Method}
 use Rattle.jv_class.specs.declared.static_class.Placed.{Placed}
 use Rattle.jv_class.specs.declared.static_class.StaticClass.{StaticClass}
-use Rattle.av_cli.specs.Machine.{IsMain}
 use Rattle.av_cli.specs.Marks.{IsMainMethod}
 use Rattle.av_cli.specs.Lines.{library_line, call_line, IsLine, AreLines}
-use Rattle.av_cli.specs.Adding.{AreSorted, AddsLines, IsInstructionLine, IsCodeLine, IsMainLine, IsMethodLine, IsFrontLine}
+use Rattle.av_cli.specs.Adding.{AddsLines, IsInstructionLine, IsCodeLine, IsMainLine, IsMethodLine, IsFrontLine}
 use Rattle.av_cli.proofs.Callees.{stands_cases, stands_old, stands_new}
 
 -- nothing is added

@@ -3,7 +3,7 @@ use Rattle.std.proofs.Common.{◌≡◌, ℕ, Bool, List, refl}
 use Rattle.jv_class.specs.declared.static_class.StaticClass.{StaticClass}
 use Rattle.jv_class.specs.Form.{IsStaticClass}
 use Rattle.av_cli.specs.Machine.{IsMain, start}
-use Rattle.av_cli.specs.Marks.{AreCallsInRange, marked}
+use Rattle.av_cli.specs.Marks.{AreCallsInRange}
 use Rattle.av_cli.specs.Reach.{IsLeast}
 use Rattle.av_cli.specs.Lines.{AreLines, text_of_lines}
 use Rattle.av_cli.specs.Promise.{IsCallGraph}

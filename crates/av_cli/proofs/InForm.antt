@@ -1,5 +1,5 @@
 -- What the form of a class says of its calls: each names a method of the class.
-use Rattle.std.proofs.Common.{◌≡◌, ℕ, zero, suc, ◌+◌, ◌<◌, ◌⊎◌, List, [], ◌∷◌, length, Contains, Some, refl, sym, subst, ⊎_elim, arith}
+use Rattle.std.proofs.Common.{◌≡◌, ℕ, zero, suc, ◌+◌, ◌<◌, List, [], ◌∷◌, length, Some, refl, subst, ⊎_elim, arith}
 use Rattle.std.specs.List.{slice_get, AllZip, AllByRecursion}
 use Rattle.std.proofs.lemmas.List.Elements.{All-from_recursion, All-contains}
 use Rattle.std.proofs.lemmas.Option.{none-some, same_Some, slice_get_within}

@@ -1,4 +1,3 @@
-use Rattle.std.proofs.Common.{ℕ, ◌<◌, length, Some}
 use Rattle.av_cli.proofs.Places.{AreMethodsInRange}
 use Rattle.av_cli.proofs.reach.are_calls_in_range.Given as goal
 
