@@ -17,9 +17,11 @@ use Rattle.jv_class.proofs.LayoutItems.{bind_is, chosen}
 
 -- ---- one attribute
 
+-- an attribute by its parts
 abbrev attribute_of : ℕ → List ℕ → Attribute
 attribute_of name content = record { name = name; content = content }
 
+-- an attribute that is read is spelled so
 attribute_takes : (bytes : List ℕ) (x : ℕ × List ℕ × List ℕ) → IsBytes bytes → attribute_at bytes ≡ Some x → Takes bytes (attribute_text (attribute_of x.0 x.1)) x.2 × IsAttribute (attribute_of x.0 x.1)
 unfolding attribute_at
 attribute_takes bytes x fits e =
@@ -36,6 +38,7 @@ attribute_takes bytes x fits e =
     given_as (λ (y : ℕ × List ℕ × List ℕ). Takes bytes (attribute_text (attribute_of y.0 y.1)) y.2 × IsAttribute (attribute_of y.0 y.1)) made x c.2
     (whole, record { name = s.1; content = omega (arith, t.1, u.1) })
 
+-- an attribute is read again, whatever follows
 attribute_again : (a : Attribute) (rest : List ℕ) → IsAttribute a → attribute_at (attribute_text a ++ rest) ≡ Some (a.name, a.content, rest)
 unfolding attribute_at
 attribute_again a rest h =
@@ -56,6 +59,7 @@ record TakesAttributes (n : ℕ) (bytes rest : List ℕ) : Type 0 where
   count_is : length attributes ≡ n
   taken : Takes bytes (flat_map attribute_text attributes) rest
 
+-- attributes that are passed over are spelled so
 behind_takes : (n : ℕ) (bytes rest : List ℕ) → IsBytes bytes → behind_at n bytes ≡ Some rest → TakesAttributes n bytes rest
 unfolding behind_at
 behind_takes zero bytes rest fits e =
@@ -68,6 +72,7 @@ behind_takes (suc n) bytes rest fits e =
     let both = Takes-then bytes (attribute_text first) a.0.2 (flat_map attribute_text r.attributes) rest t.0 r.taken in
     record { attributes = first ∷ r.attributes; are_attributes = (t.1, r.are_attributes); count_is = ap suc r.count_is; taken = rw flat_map-cons both }
 
+-- attributes are passed over, whatever follows
 behind_again : (attributes : List Attribute) (rest : List ℕ) → AllByRecursion IsAttribute attributes → behind_at (length attributes) (flat_map attribute_text attributes ++ rest) ≡ Some rest
 unfolding behind_at
 behind_again [] rest h = refl
@@ -82,6 +87,7 @@ pub record TakesCounted (bytes rest : List ℕ) : Type 0 where
   pub are_attributes : AreAttributes attributes
   pub taken : Takes bytes (attributes_text attributes) rest
 
+-- a count of attributes that is passed over is spelled so
 pub passed_takes : (bytes rest : List ℕ) → IsBytes bytes → passed_at bytes ≡ Some rest → TakesCounted bytes rest
 unfolding passed_at
 passed_takes bytes rest fits e =
@@ -95,6 +101,7 @@ passed_takes bytes rest fits e =
       taken = subst (λ (k : ℕ). Takes bytes (u2 k ++ flat_map attribute_text r.attributes) rest) (sym r.count_is) both;
     }
 
+-- a count of attributes is passed over, whatever follows
 pub passed_again : (attributes : List Attribute) (rest : List ℕ) → AreAttributes attributes → passed_at (attributes_text attributes ++ rest) ≡ Some rest
 unfolding passed_at
 passed_again attributes rest h =
@@ -103,6 +110,7 @@ passed_again attributes rest h =
 
 -- ---- the one Code
 
+-- an entry that passes the test is the name Code
 is_code-true : (o : Option Entry) → is_code o ≡ true → o ≡ Some (entry.Utf8 (codes "Code"))
 unfolding is_code
 is_code-true None e = absurd cc
@@ -112,13 +120,16 @@ is_code-true (Some (entry.Methodref class name_and_type)) e = absurd cc
 is_code-true (Some (entry.NameAndType name desc)) e = absurd cc
 is_code-true (Some entry.Unused) e = absurd cc
 
+-- an attribute named Code passes the test
 is_code-named : (pool : List Entry) (a : Attribute) → IsNamedCode pool a → is_code (slice_get pool a.name) ≡ true
 unfolding is_code
 is_code-named pool a h = ap is_code h
 
+-- an attribute not named Code fails the test
 is_code-not_named : (pool : List Entry) (a : Attribute) → (IsNamedCode pool a → ⊥) → is_code (slice_get pool a.name) ≡ false
 is_code-not_named pool a h = false_from_ne_true (is_code (slice_get pool a.name)) (λ e. h (is_code-true (slice_get pool a.name) e))
 
+-- an attribute that fails the test is not named Code
 is_code-false : (pool : List Entry) (a : Attribute) → is_code (slice_get pool a.name) ≡ false → IsNamedCode pool a → ⊥
 is_code-false pool a e h = let both : true ≡ false = sym (is_code-named pool a h) ∙ e in absurd cc
 
@@ -141,11 +152,13 @@ none_behind pool content (a ∷ others) x e =
           ((is_code-false pool a h.0, r.0), r.1)
     ]
 
+-- what was found stays where nothing more is named Code
 none_behind-again : (pool : List Entry) (content : List ℕ) (attributes : List Attribute) → AllByRecursion (λ a. ¬ IsNamedCode pool a) attributes → found_among pool (Some content) attributes ≡ Some (Some content)
 unfolding found_among found_at
 none_behind-again pool content [] h = refl
 none_behind-again pool content (a ∷ others) h = rw (is_code-not_named pool a h.0) (none_behind-again pool content others h.1)
 
+-- what is found was the one Code
 one_code : (pool : List Entry) (content : List ℕ) (attributes : List Attribute) → found_among pool None attributes ≡ Some (Some content) → HasOneCode pool attributes content
 unfolding found_among found_at
 one_code pool content [] e = absurd cc
@@ -160,12 +173,14 @@ one_code pool content (a ∷ others) e =
           record { before = a ∷ r.before; after = r.after; code = r.code; parts = ap (λ (x : List Attribute). a ∷ x) r.parts; named = r.named; none_before = (is_code-false pool a h.0, r.none_before); none_after = r.none_after; content_is = r.content_is }
     ]
 
+-- the one Code is found, whatever stands before and after it
 one_code_between : (pool : List Entry) (before after : List Attribute) (code : Attribute) → AllByRecursion (λ a. ¬ IsNamedCode pool a) before → IsNamedCode pool code → AllByRecursion (λ a. ¬ IsNamedCode pool a) after
     → found_among pool None (before ++ code ∷ after) ≡ Some (Some code.content)
 unfolding found_among found_at
 one_code_between pool [] after code none_before named none_after = rw (is_code-named pool code named) (none_behind-again pool code.content after none_after)
 one_code_between pool (a ∷ before) after code none_before named none_after = rw (is_code-not_named pool a none_before.0) (one_code_between pool before after code none_before.1 named none_after)
 
+-- the one Code is found
 one_code-again : (pool : List Entry) (content : List ℕ) (attributes : List Attribute) → HasOneCode pool attributes content → found_among pool None attributes ≡ Some (Some content)
 one_code-again pool content attributes h =
     ap (found_among pool None) h.parts ∙ one_code_between pool h.before h.after h.code h.none_before h.named h.none_after ∙ ap (λ (c : List ℕ). Some (Some c)) h.content_is
@@ -180,6 +195,7 @@ record TakesFound (pool : List Entry) (n : ℕ) (found : Option (List ℕ)) (byt
   taken : Takes bytes (flat_map attribute_text attributes) x.1
   found_is : found_among pool found attributes ≡ Some x.0
 
+-- attributes among which Code is looked for are spelled so
 code_takes : (pool : List Entry) (n : ℕ) (found : Option (List ℕ)) (bytes : List ℕ) (x : Option (List ℕ) × List ℕ) → IsBytes bytes → code_at pool n found bytes ≡ Some x → TakesFound pool n found bytes x
 unfolding code_at found_among
 code_takes pool zero found bytes x fits e =
@@ -199,6 +215,7 @@ code_takes pool (suc n) found bytes x fits e =
       found_is = bind_is (found_at pool found a.0.0 a.0.1) (λ next. found_among pool next r.attributes) b.0 b.1 ∙ r.found_is;
     }
 
+-- attributes among which Code is looked for are read again, whatever follows
 code_again : (pool : List Entry) (attributes : List Attribute) (found x : Option (List ℕ)) (rest : List ℕ) → AllByRecursion IsAttribute attributes → found_among pool found attributes ≡ Some x
     → code_at pool (length attributes) found (flat_map attribute_text attributes ++ rest) ≡ Some (x, rest)
 unfolding code_at found_among
@@ -217,6 +234,7 @@ pub record TakesOneCode (pool : List Entry) (bytes : List ℕ) (x : List ℕ × 
   pub taken : Takes bytes (attributes_text attributes) x.1
   pub code : HasOneCode pool attributes x.0
 
+-- attributes of a method that are read are spelled so, and one is Code
 pub one_code_takes : (pool : List Entry) (bytes : List ℕ) (x : List ℕ × List ℕ) → IsBytes bytes → one_code_at pool bytes ≡ Some x → TakesOneCode pool bytes x
 unfolding one_code_at
 one_code_takes pool bytes x fits e =
@@ -235,6 +253,7 @@ one_code_takes pool bytes x fits e =
       code = one_code pool c.0 r.attributes (r.found_is ∙ ap (λ (f : Option (List ℕ)). Some f) c.1);
     })
 
+-- attributes of a method with one Code are read again, whatever follows
 pub one_code_again : (pool : List Entry) (attributes : List Attribute) (content rest : List ℕ) → AreAttributes attributes → HasOneCode pool attributes content
     → one_code_at pool (attributes_text attributes ++ rest) ≡ Some (content, rest)
 unfolding one_code_at

@@ -11,9 +11,11 @@ use Rattle.jv_class.specs.Reading.{◌>>=◌, u1_at, u2_at, u4_at, bytes_at}
 abbrev pub IsBytes : List ℕ → Type 0
 IsBytes bytes = (i : ℕ) → get_or bytes i 0 < 256
 
+-- what is left of bytes are bytes
 pub IsBytes-drop : (n : ℕ) (bytes : List ℕ) → IsBytes bytes → IsBytes (drop n bytes)
 IsBytes-drop n bytes h i = rw get_or-drop (h (n + i))
 
+-- a front of bytes are bytes
 pub IsBytes-take : (n : ℕ) (bytes : List ℕ) → IsBytes bytes → IsBytes (take n bytes)
 IsBytes-take n bytes h i =
     elim (cases_lt i n) [
@@ -21,6 +23,7 @@ IsBytes-take n bytes h i =
       | inr le ↦ rw (get_or_past (take n bytes) i 0 (omega (arith, length-take n bytes))) (omega arith)
     ]
 
+-- bytes behind one byte are bytes
 pub IsBytes-rest : (b : ℕ) (bytes : List ℕ) → IsBytes (b ∷ bytes) → IsBytes bytes
 IsBytes-rest b bytes h i = h (suc i)
 
@@ -34,17 +37,21 @@ pub guard_false : {A : Type 0} (b : Bool) (x y : A) → cond b None (Some x) ≡
 guard_false true x y e = absurd cc
 guard_false false x y e = (refl, cc)
 
+-- a test that has to fail before something is read
 pub past_false : {A : Type 0} (b : Bool) (o : Option A) (y : A) → cond b None o ≡ Some y → (b ≡ false) × (o ≡ Some y)
 past_false true o y e = absurd cc
 past_false false o y e = (refl, e)
 
+-- a test that has to succeed before something is read
 pub past_true : {A : Type 0} (b : Bool) (o : Option A) (y : A) → cond b o None ≡ Some y → (b ≡ true) × (o ≡ Some y)
 past_true true o y e = (refl, e)
 past_true false o y e = absurd cc
 
+-- something that was given, at a type that is known
 abbrev some : {A : Type 0} → A → Option A
 some x = Some x
 
+-- what was given twice is one value
 pub some_is : {A : Type 0} (x y : A) → some x ≡ some y → x ≡ y
 some_is x y e = cc
 
@@ -57,14 +64,17 @@ pub record Takes (bytes text rest : List ℕ) : Type 0 where
   pub parts : bytes ≡ text ++ rest
   pub rest_fits : IsBytes rest
 
+-- nothing may be taken
 pub Takes-none : (bytes : List ℕ) → IsBytes bytes → Takes bytes [] bytes
 Takes-none bytes fits = record { parts = refl; rest_fits = fits }
 
+-- a text and then a text are one text
 pub Takes-then : (a x b y c : List ℕ) → Takes a x b → Takes b y c → Takes a (x ++ y) c
 Takes-then a x b y c p q = record { parts = p.parts ∙ ap (λ (t : List ℕ). x ++ t) q.parts ∙ sym (append_assoc x y c); rest_fits = q.rest_fits }
 
 -- ---- one byte
 
+-- one byte that is read is spelled so
 pub u1_takes : (bytes : List ℕ) (x : ℕ × List ℕ) → IsBytes bytes → u1_at bytes ≡ Some x → Takes bytes (x.0 ∷ []) x.1 × (x.0 < 256)
 u1_takes [] x fits e = absurd cc
 u1_takes (b ∷ rest) x fits e =
@@ -72,6 +82,7 @@ u1_takes (b ∷ rest) x fits e =
 
 -- ---- two bytes
 
+-- two bytes that are read are the text of their number
 pub u2_takes : (bytes : List ℕ) (x : ℕ × List ℕ) → IsBytes bytes → u2_at bytes ≡ Some x → Takes bytes (u2 x.0) x.1 × (x.0 < 2 ^ 16)
 u2_takes bytes x fits e =
     let g = guard_false (ltb (length bytes) 2) (from_be_bytes w16 (take 2 bytes), drop 2 bytes) x e in
@@ -82,6 +93,7 @@ u2_takes bytes x fits e =
     let taken : Takes bytes (u2 (from_be_bytes w16 (take 2 bytes))) (drop 2 bytes) = record { parts = sym (take-append-drop 2 bytes) ∙ ap (λ (t : List ℕ). t ++ drop 2 bytes) (sym front); rest_fits = IsBytes-drop 2 bytes fits } in
     subst (λ (y : ℕ × List ℕ). Takes bytes (u2 y.0) y.1 × (y.0 < 2 ^ 16)) g.1 (taken, below)
 
+-- a number of two bytes is read again, whatever follows
 pub u2_again : (n : ℕ) (rest : List ℕ) → n < 2 ^ 16 → u2_at (u2 n ++ rest) ≡ Some (n, rest)
 u2_again n rest lt =
     let long : ltb (length (u2 n ++ rest)) 2 ≡ false = le-ltb _ _ (omega (arith, length-append (u2 n) rest)) in
@@ -89,6 +101,7 @@ u2_again n rest lt =
 
 -- ---- four bytes
 
+-- four bytes that are read are the text of their number
 pub u4_takes : (bytes : List ℕ) (x : ℕ × List ℕ) → IsBytes bytes → u4_at bytes ≡ Some x → Takes bytes (u4 x.0) x.1 × (x.0 < 2 ^ 32)
 u4_takes bytes x fits e =
     let g = guard_false (ltb (length bytes) 4) (from_be_bytes w32 (take 4 bytes), drop 4 bytes) x e in
@@ -99,6 +112,7 @@ u4_takes bytes x fits e =
     let taken : Takes bytes (u4 (from_be_bytes w32 (take 4 bytes))) (drop 4 bytes) = record { parts = sym (take-append-drop 4 bytes) ∙ ap (λ (t : List ℕ). t ++ drop 4 bytes) (sym front); rest_fits = IsBytes-drop 4 bytes fits } in
     subst (λ (y : ℕ × List ℕ). Takes bytes (u4 y.0) y.1 × (y.0 < 2 ^ 32)) g.1 (taken, below)
 
+-- a number of four bytes is read again, whatever follows
 pub u4_again : (n : ℕ) (rest : List ℕ) → n < 2 ^ 32 → u4_at (u4 n ++ rest) ≡ Some (n, rest)
 u4_again n rest lt =
     let long : ltb (length (u4 n ++ rest)) 4 ≡ false = le-ltb _ _ (omega (arith, length-append (u4 n) rest)) in
@@ -106,6 +120,7 @@ u4_again n rest lt =
 
 -- ---- as many bytes
 
+-- as many bytes as were asked for are read
 pub bytes_take : (bytes : List ℕ) (count : ℕ) (x : List ℕ × List ℕ) → IsBytes bytes → bytes_at bytes count ≡ Some x → Takes bytes x.0 x.1 × (length x.0 ≡ count)
 bytes_take bytes count x fits e =
     let g = guard_false (ltb (length bytes) count) (take count bytes, drop count bytes) x e in
@@ -114,6 +129,7 @@ bytes_take bytes count x fits e =
     let taken : Takes bytes (take count bytes) (drop count bytes) = record { parts = sym (take-append-drop count bytes); rest_fits = IsBytes-drop count bytes fits } in
     subst (λ (y : List ℕ × List ℕ). Takes bytes y.0 y.1 × (length y.0 ≡ count)) g.1 (taken, len)
 
+-- bytes are read again, whatever follows
 pub bytes_again : (text rest : List ℕ) (count : ℕ) → length text ≡ count → bytes_at (text ++ rest) count ≡ Some (text, rest)
 bytes_again text rest count len =
     let long : ltb (length (text ++ rest)) count ≡ false = le-ltb _ _ (omega (arith, length-append text rest)) in

@@ -18,11 +18,13 @@ pub chosen : {A : Type 0} (b : Bool) (x y z : A) → cond b x y ≡ z → ((b �
 chosen true x y z e = inl (refl, e)
 chosen false x y z e = inr (refl, e)
 
+-- a tag in front of a text
 pub Takes-tag : (tag : ℕ) (bytes text rest : List ℕ) → Takes bytes text rest → Takes (tag ∷ bytes) (tag ∷ text) rest
 Takes-tag tag bytes text rest t = record { parts = ap (λ (w : List ℕ). tag ∷ w) t.parts; rest_fits = t.rest_fits }
 
 -- ---- texts and pairs
 
+-- a text that is read is spelled so
 pub text_takes : (bytes : List ℕ) (x : List ℕ × List ℕ) → IsBytes bytes → text_at bytes ≡ Some x → Takes bytes (u2 (length x.0) ++ x.0) x.1 × (length x.0 < 2 ^ 16)
 unfolding text_at
 text_takes bytes x fits e =
@@ -32,11 +34,13 @@ text_takes bytes x fits e =
     let both : Takes bytes (u2 a.0.0 ++ x.0) x.1 = Takes-then bytes (u2 a.0.0) a.0.1 x.0 x.1 t.0 b.0 in
     (subst (λ (k : ℕ). Takes bytes (u2 k ++ x.0) x.1) (sym b.1) both, omega (arith, t.1, b.1))
 
+-- a text is read again, whatever follows
 pub text_again : (text rest : List ℕ) → length text < 2 ^ 16 → text_at ((u2 (length text) ++ text) ++ rest) ≡ Some (text, rest)
 unfolding text_at
 text_again text rest lt =
     bind_is (u2_at (u2 (length text) ++ (text ++ rest))) (λ len. bytes_at len.1 len.0) (length text, text ++ rest) (u2_again (length text) (text ++ rest) lt) ∙ bytes_again text rest (length text) refl
 
+-- a pair that is read is spelled so
 pub pair_takes : (bytes : List ℕ) (x : ℕ × ℕ × List ℕ) → IsBytes bytes → pair_at bytes ≡ Some x → Takes bytes (u2 x.0 ++ u2 x.1) x.2 × (x.0 < 2 ^ 16) × (x.1 < 2 ^ 16)
 unfolding pair_at
 pair_takes bytes x fits e =
@@ -48,6 +52,7 @@ pair_takes bytes x fits e =
     let made : ℕ × ℕ × List ℕ = (a.0.0, b.0.0, b.0.1) in
     given_as (λ (y : ℕ × ℕ × List ℕ). Takes bytes (u2 y.0 ++ u2 y.1) y.2 × (y.0 < 2 ^ 16) × (y.1 < 2 ^ 16)) made x b.2 (both, s.1, t.1)
 
+-- a pair is read again, whatever follows
 pub pair_again : (first second : ℕ) (rest : List ℕ) → first < 2 ^ 16 → second < 2 ^ 16 → pair_at ((u2 first ++ u2 second) ++ rest) ≡ Some (first, second, rest)
 unfolding pair_at
 pair_again first second rest lt lt' =
@@ -64,6 +69,7 @@ pub record TakesItem (bytes : List ℕ) (x : Entry × Bool × List ℕ) : Type 0
   pub entry_is : entry_of item ≡ x.0
   pub wide_is : is_wide item ≡ x.1
 
+-- each kind of item that is read behind its tag is spelled so
 utf8_takes : (bytes : List ℕ) (x : Entry × Bool × List ℕ) → IsBytes bytes → utf8_at bytes ≡ Some x → TakesItem (1 ∷ bytes) x
 unfolding utf8_at
 utf8_takes bytes x fits e =
@@ -73,6 +79,7 @@ utf8_takes bytes x fits e =
     given_as (λ (y : Entry × Bool × List ℕ). TakesItem (1 ∷ bytes) y) made x a.2
     (record { item = Utf8 a.0.0; is_item = t.1; taken = Takes-tag 1 bytes (u2 (length a.0.0) ++ a.0.0) a.0.1 t.0; entry_is = refl; wide_is = refl })
 
+-- of a class
 class_takes : (bytes : List ℕ) (x : Entry × Bool × List ℕ) → IsBytes bytes → class_at bytes ≡ Some x → TakesItem (7 ∷ bytes) x
 unfolding class_at
 class_takes bytes x fits e =
@@ -82,6 +89,7 @@ class_takes bytes x fits e =
     given_as (λ (y : Entry × Bool × List ℕ). TakesItem (7 ∷ bytes) y) made x a.2
     (record { item = Class a.0.0; is_item = t.1; taken = Takes-tag 7 bytes (u2 a.0.0) a.0.1 t.0; entry_is = refl; wide_is = refl })
 
+-- of a method of a class
 methodref_takes : (bytes : List ℕ) (x : Entry × Bool × List ℕ) → IsBytes bytes → methodref_at bytes ≡ Some x → TakesItem (10 ∷ bytes) x
 unfolding methodref_at
 methodref_takes bytes x fits e =
@@ -91,6 +99,7 @@ methodref_takes bytes x fits e =
     given_as (λ (y : Entry × Bool × List ℕ). TakesItem (10 ∷ bytes) y) made x a.2
     (record { item = Methodref a.0.0 a.0.1; is_item = (t.1, t.2); taken = Takes-tag 10 bytes (u2 a.0.0 ++ u2 a.0.1) a.0.2 t.0; entry_is = refl; wide_is = refl })
 
+-- of a name and a descriptor
 name_and_type_takes : (bytes : List ℕ) (x : Entry × Bool × List ℕ) → IsBytes bytes → name_and_type_at bytes ≡ Some x → TakesItem (12 ∷ bytes) x
 unfolding name_and_type_at
 name_and_type_takes bytes x fits e =
@@ -100,6 +109,7 @@ name_and_type_takes bytes x fits e =
     given_as (λ (y : Entry × Bool × List ℕ). TakesItem (12 ∷ bytes) y) made x a.2
     (record { item = NameAndType a.0.0 a.0.1; is_item = (t.1, t.2); taken = Takes-tag 12 bytes (u2 a.0.0 ++ u2 a.0.1) a.0.2 t.0; entry_is = refl; wide_is = refl })
 
+-- of an item that is not kept
 other_takes : (tag : ℕ) (bytes : List ℕ) (x : Entry × Bool × List ℕ) → IsBytes bytes → other_at tag bytes ≡ Some x → TakesItem (tag ∷ bytes) x
 unfolding other_at
 other_takes tag bytes x fits e =
@@ -110,6 +120,7 @@ other_takes tag bytes x fits e =
     given_as (λ (y : Entry × Bool × List ℕ). TakesItem (tag ∷ bytes) y) made x b.2
     (record { item = Other tag b.0.0; is_item = a.1 ∙ ap (λ (k : ℕ). Some k) (sym t.1); taken = Takes-tag tag bytes b.0.0 b.0.1 t.0; entry_is = refl; wide_is = refl })
 
+-- an item that is read behind its tag, whichever it is, is spelled so
 tagged_takes : (tag : ℕ) (bytes : List ℕ) (x : Entry × Bool × List ℕ) → IsBytes bytes → tagged_at tag bytes ≡ Some x → TakesItem (tag ∷ bytes) x
 unfolding tagged_at
 tagged_takes tag bytes x fits e =
@@ -128,6 +139,7 @@ tagged_takes tag bytes x fits e =
       ]
     ]
 
+-- an item that is read is spelled so
 pub item_takes : (bytes : List ℕ) (x : Entry × Bool × List ℕ) → IsBytes bytes → item_at bytes ≡ Some x → TakesItem bytes x
 unfolding item_at
 item_takes [] x fits e = absurd cc
@@ -137,17 +149,20 @@ item_takes (tag ∷ bytes) x fits e = tagged_takes tag bytes x (IsBytes-rest tag
 not_kept : (tag kept width : ℕ) → other_width tag ≡ Some width → other_width kept ≡ None → eqb tag kept ≡ false
 not_kept tag kept width h none = ne_eqb tag kept (λ e. let both : None ≡ Some width = sym none ∙ sym (ap other_width e) ∙ h in absurd cc)
 
+-- behind the tag of an item that is not kept such an item is read
 tagged_other : (tag width : ℕ) (bytes : List ℕ) → other_width tag ≡ Some width → tagged_at tag bytes ≡ other_at tag bytes
 unfolding tagged_at
 tagged_other tag width bytes h =
     rw (not_kept tag 1 width h refl, not_kept tag 7 width h refl, not_kept tag 10 width h refl, not_kept tag 12 width h refl) refl
 
+-- an item that is not kept is read again, whatever follows
 other_again : (tag : ℕ) (content rest : List ℕ) → other_width tag ≡ Some (length content) → other_at tag (content ++ rest) ≡ Some (entry.Unused, is_wide_tag tag, rest)
 unfolding other_at
 other_again tag content rest h =
     bind_is (other_width tag) (λ width. bytes_at (content ++ rest) width >>= λ x. Some (entry.Unused, is_wide_tag tag, x.1)) (length content) h
     ∙ bind_is (bytes_at (content ++ rest) (length content)) (λ x. Some (entry.Unused, is_wide_tag tag, x.1)) (content, rest) (bytes_again content rest (length content) refl)
 
+-- an item is read again, whatever follows
 pub item_again : (item : Item) (rest : List ℕ) → IsItem item → item_at (item_text item ++ rest) ≡ Some (entry_of item, is_wide item, rest)
 unfolding item_at tagged_at utf8_at class_at methodref_at name_and_type_at
 item_again (Utf8 text) rest h = bind_is (text_at ((u2 (length text) ++ text) ++ rest)) (λ x. Some (entry.Utf8 x.0, false, x.1)) (text, rest) (text_again text rest h)

@@ -20,12 +20,14 @@ regroup front a None = refl
 
 -- ---- entries of the pool
 
+-- nothing was read yet but the entry at 0
 pub entries_begin : (front : List Entry) (count : ℕ) (bytes : List ℕ) → front ≡ Unused ∷ [] → with_front front (entries_at (count - 0) false bytes) ≡ indexed_at count bytes
 unfolding indexed_at
 entries_begin front count bytes h =
     let k : count - 0 ≡ count = omega arith in
     rw (h, k) refl
 
+-- one entry more was read
 pub entry_goes_on : (front : List Entry) (count i : ℕ) (wide after_wide : Bool) (bytes after : List ℕ) (e : Entry) (total : Option (List Entry × List ℕ)) → i < count
     → slot_at wide bytes ≡ Some (e, after_wide, after) → with_front front (entries_at (count - i) wide bytes) ≡ total
     → with_front (front ++ e ∷ []) (entries_at (count - (i + 1)) after_wide after) ≡ total
@@ -35,6 +37,7 @@ entry_goes_on front count i wide after_wide bytes after e total lt h so_far =
     let one : with_front front (entries_at (count - i) wide bytes) ≡ with_front (front ++ e ∷ []) (entries_at (count - (i + 1)) after_wide after) = rw (k, h) (regroup front e (entries_at (count - (i + 1)) after_wide after)) in
     sym one ∙ so_far
 
+-- an entry that is not read ends it all
 pub entry_ends : (error : ReadError) (front : List Entry) (count i : ℕ) (wide : Bool) (bytes : List ℕ) (total : Option (List Entry × List ℕ)) → i < count
     → Fails error (slot_at wide bytes) → with_front front (entries_at (count - i) wide bytes) ≡ total → Fails error total
 unfolding entries_at
@@ -44,6 +47,7 @@ entry_ends errors.Malformed front count i wide bytes total lt h so_far =
     let one : with_front front (entries_at (count - i) wide bytes) ≡ None = rw (k, h) refl in
     sym so_far ∙ one
 
+-- all entries were read
 pub entries_are_done : (front : List Entry) (count i : ℕ) (wide : Bool) (bytes : List ℕ) (total : Option (List Entry × List ℕ)) → count ≤ i → wide ≡ false
     → with_front front (entries_at (count - i) wide bytes) ≡ total → total ≡ Some (front, bytes)
 unfolding entries_at
@@ -52,6 +56,7 @@ entries_are_done front count i wide bytes total le narrow so_far =
     let one : with_front front (entries_at (count - i) wide bytes) ≡ Some (front, bytes) = rw (k, narrow) (ap (λ (es : List Entry). Some (es, bytes)) (append-nil front)) in
     sym so_far ∙ one
 
+-- the last item takes an index more than there are
 pub entries_are_cut : (front : List Entry) (count i : ℕ) (wide : Bool) (bytes : List ℕ) (total : Option (List Entry × List ℕ)) → count ≤ i → wide ≡ true
     → with_front front (entries_at (count - i) wide bytes) ≡ total → total ≡ None
 unfolding entries_at
@@ -62,6 +67,7 @@ entries_are_cut front count i wide bytes total le is_wide so_far =
 
 -- ---- attributes that are passed over
 
+-- one attribute more was passed over
 pub behind_goes_on : (count i name : ℕ) (bytes content after : List ℕ) (total : Option (List ℕ)) → i < count → attribute_at bytes ≡ Some (name, content, after)
     → behind_at (count - i) bytes ≡ total → behind_at (count - (i + 1)) after ≡ total
 unfolding behind_at
@@ -70,6 +76,7 @@ behind_goes_on count i name bytes content after total lt h so_far =
     let one : behind_at (count - i) bytes ≡ behind_at (count - (i + 1)) after = rw (k, h) refl in
     sym one ∙ so_far
 
+-- an attribute that is not read ends it all
 pub behind_ends : (error : ReadError) (count i : ℕ) (bytes : List ℕ) (total : Option (List ℕ)) → i < count → Fails error (attribute_at bytes)
     → behind_at (count - i) bytes ≡ total → Fails error total
 unfolding behind_at
@@ -79,6 +86,7 @@ behind_ends errors.Malformed count i bytes total lt h so_far =
     let one : behind_at (count - i) bytes ≡ None = rw (k, h) refl in
     sym so_far ∙ one
 
+-- all attributes were passed over
 pub behind_is_done : (count i : ℕ) (bytes : List ℕ) (total : Option (List ℕ)) → count ≤ i → behind_at (count - i) bytes ≡ total → total ≡ Some bytes
 unfolding behind_at
 behind_is_done count i bytes total le so_far =
@@ -88,6 +96,7 @@ behind_is_done count i bytes total le so_far =
 
 -- ---- attributes among which Code is looked for
 
+-- one attribute more was looked at
 pub code_goes_on : (pool : List Entry) (count i name : ℕ) (found next : Option (List ℕ)) (bytes content after : List ℕ) (total : Option (Option (List ℕ) × List ℕ)) → i < count
     → attribute_at bytes ≡ Some (name, content, after) → found_at pool found name content ≡ Some next
     → code_at pool (count - i) found bytes ≡ total → code_at pool (count - (i + 1)) next after ≡ total
@@ -97,6 +106,7 @@ code_goes_on pool count i name found next bytes content after total lt h g so_fa
     let one : code_at pool (count - i) found bytes ≡ code_at pool (count - (i + 1)) next after = rw (k, h, g) refl in
     sym one ∙ so_far
 
+-- an attribute that is not read ends it all
 pub code_ends : (error : ReadError) (pool : List Entry) (count i : ℕ) (found : Option (List ℕ)) (bytes : List ℕ) (total : Option (Option (List ℕ) × List ℕ)) → i < count
     → Fails error (attribute_at bytes) → code_at pool (count - i) found bytes ≡ total → Fails error total
 unfolding code_at
@@ -106,6 +116,7 @@ code_ends errors.Malformed pool count i found bytes total lt h so_far =
     let one : code_at pool (count - i) found bytes ≡ None = rw (k, h) refl in
     sym so_far ∙ one
 
+-- a second Code ends it all
 pub code_is_second : (error : ReadError) (pool : List Entry) (count i name : ℕ) (found : Option (List ℕ)) (bytes content after : List ℕ) (total : Option (Option (List ℕ) × List ℕ)) → i < count
     → attribute_at bytes ≡ Some (name, content, after) → Fails error (found_at pool found name content)
     → code_at pool (count - i) found bytes ≡ total → Fails error total
@@ -116,6 +127,7 @@ code_is_second errors.Malformed pool count i name found bytes content after tota
     let one : code_at pool (count - i) found bytes ≡ None = rw (k, h, g) refl in
     sym so_far ∙ one
 
+-- all attributes were looked at
 pub code_is_done : (pool : List Entry) (count i : ℕ) (found : Option (List ℕ)) (bytes : List ℕ) (total : Option (Option (List ℕ) × List ℕ)) → count ≤ i
     → code_at pool (count - i) found bytes ≡ total → total ≡ Some (found, bytes)
 unfolding code_at
@@ -126,6 +138,7 @@ code_is_done pool count i found bytes total le so_far =
 
 -- ---- methods
 
+-- one method more was read
 pub method_goes_on : (pool : List Entry) (front : List RawMethod) (count i : ℕ) (bytes after : List ℕ) (m : RawMethod) (total : Option (List RawMethod × List ℕ)) → i < count
     → method_at pool bytes ≡ Some (m, after) → with_front front (methods_at pool (count - i) bytes) ≡ total
     → with_front (front ++ m ∷ []) (methods_at pool (count - (i + 1)) after) ≡ total
@@ -135,6 +148,7 @@ method_goes_on pool front count i bytes after m total lt h so_far =
     let one : with_front front (methods_at pool (count - i) bytes) ≡ with_front (front ++ m ∷ []) (methods_at pool (count - (i + 1)) after) = rw (k, h) (regroup front m (methods_at pool (count - (i + 1)) after)) in
     sym one ∙ so_far
 
+-- a method that is not read ends it all
 pub method_ends : (error : ReadError) (pool : List Entry) (front : List RawMethod) (count i : ℕ) (bytes : List ℕ) (total : Option (List RawMethod × List ℕ)) → i < count
     → Fails error (method_at pool bytes) → with_front front (methods_at pool (count - i) bytes) ≡ total → Fails error total
 unfolding methods_at
@@ -144,6 +158,7 @@ method_ends errors.Malformed pool front count i bytes total lt h so_far =
     let one : with_front front (methods_at pool (count - i) bytes) ≡ None = rw (k, h) refl in
     sym so_far ∙ one
 
+-- all methods were read
 pub methods_are_done : (pool : List Entry) (front : List RawMethod) (count i : ℕ) (bytes : List ℕ) (total : Option (List RawMethod × List ℕ)) → count ≤ i
     → with_front front (methods_at pool (count - i) bytes) ≡ total → total ≡ Some (front, bytes)
 unfolding methods_at

@@ -12,9 +12,11 @@ use Rattle.jv_class.proofs.LayoutFields.{IsBytes, bind_some, given_as, Takes, Ta
 use Rattle.jv_class.proofs.LayoutItems.{bind_is, pair_takes, pair_again}
 use Rattle.jv_class.proofs.LayoutAttributes.{one_code_takes, one_code_again}
 
+-- a method as it is kept, by its parts
 abbrev raw_of : ℕ → ℕ → ℕ → List ℕ → RawMethod
 raw_of access name desc code = record { access = record { 0 = access }; name = name; desc = desc; code = code }
 
+-- a method of the file, by its parts
 abbrev member_of : ℕ → ℕ → ℕ → List Attribute → Member
 member_of access name desc attributes = record { access = access; name = name; desc = desc; attributes = attributes }
 
@@ -27,6 +29,7 @@ record TakesMember (pool : List Entry) (bytes : List ℕ) (x : RawMethod × List
   taken : Takes bytes (member_text member) x.1
   raw : IsRawMethod pool member x.0
 
+-- a method that is read is spelled so
 method_takes : (pool : List Entry) (bytes : List ℕ) (x : RawMethod × List ℕ) → IsBytes bytes → method_at pool bytes ≡ Some x → TakesMember pool bytes x
 unfolding method_at
 method_takes pool bytes x fits e =
@@ -47,10 +50,12 @@ method_takes pool bytes x fits e =
       raw = record { access = refl; name = refl; desc = refl; code = u.code };
     })
 
+-- what is kept of a method is known by its parts
 raw_is : (raw : RawMethod) (access name desc : ℕ) → raw.access.0 ≡ access → raw.name ≡ name → raw.desc ≡ desc → raw_of access name desc raw.code ≡ raw
 raw_is raw access name desc p q r =
     ap (λ (n : ℕ). raw_of n name desc raw.code) (sym p) ∙ ap (λ (n : ℕ). raw_of raw.access.0 n desc raw.code) (sym q) ∙ ap (λ (n : ℕ). raw_of raw.access.0 raw.name n raw.code) (sym r)
 
+-- a method is read again, whatever follows
 method_again : (pool : List Entry) (m : Member) (raw : RawMethod) (rest : List ℕ) → IsMember m → IsRawMethod pool m raw → method_at pool (member_text m ++ rest) ≡ Some (raw, rest)
 unfolding method_at
 method_again pool m raw rest h kept =
@@ -61,6 +66,7 @@ method_again pool m raw rest h kept =
 
 -- ---- as many methods
 
+-- as many methods stand at the front, and this is kept of them
 record TakesMembers (pool : List Entry) (n : ℕ) (bytes : List ℕ) (x : List RawMethod × List ℕ) : Type 0 where
   members : List Member
   are_members : AllByRecursion IsMember members
@@ -68,6 +74,7 @@ record TakesMembers (pool : List Entry) (n : ℕ) (bytes : List ℕ) (x : List R
   taken : Takes bytes (flat_map member_text members) x.1
   raws : AllZip (IsRawMethod pool) members x.0
 
+-- methods that are read are spelled so
 methods_take : (pool : List Entry) (n : ℕ) (bytes : List ℕ) (x : List RawMethod × List ℕ) → IsBytes bytes → methods_at pool n bytes ≡ Some x → TakesMembers pool n bytes x
 unfolding methods_at
 methods_take pool zero bytes x fits e =
@@ -82,6 +89,7 @@ methods_take pool (suc n) bytes x fits e =
     given_as (λ (y : List RawMethod × List ℕ). TakesMembers pool (suc n) bytes y) made x b.2
     (record { members = t.member ∷ r.members; are_members = (t.is_member, r.are_members); count_is = ap suc r.count_is; taken = rw flat_map-cons both; raws = (t.raw, r.raws) })
 
+-- methods are read again, whatever follows
 methods_again : (pool : List Entry) (members : List Member) (raws : List RawMethod) (rest : List ℕ) → AllByRecursion IsMember members → AllZip (IsRawMethod pool) members raws
     → methods_at pool (length members) (flat_map member_text members ++ rest) ≡ Some (raws, rest)
 unfolding methods_at
@@ -97,9 +105,11 @@ methods_again pool (m ∷ members) (raw ∷ raws) rest h kept =
 
 -- ---- a count and as many methods
 
+-- a count, and as many methods
 abbrev pub members_text : List Member → List ℕ
 members_text members = u2 (length members) ++ flat_map member_text members
 
+-- a count and as many methods stand at the front, and this is kept of them
 pub record TakesMethods (pool : List Entry) (bytes : List ℕ) (x : List RawMethod × List ℕ) : Type 0 where
   pub members : List Member
   pub are_members : AllByRecursion IsMember members
@@ -107,6 +117,7 @@ pub record TakesMethods (pool : List Entry) (bytes : List ℕ) (x : List RawMeth
   pub taken : Takes bytes (members_text members) x.1
   pub raws : AllZip (IsRawMethod pool) members x.0
 
+-- a count of methods that is read is spelled so
 pub counted_methods_take : (pool : List Entry) (bytes : List ℕ) (x : List RawMethod × List ℕ) → IsBytes bytes → counted_methods_at pool bytes ≡ Some x → TakesMethods pool bytes x
 unfolding counted_methods_at
 counted_methods_take pool bytes x fits e =
@@ -122,6 +133,7 @@ counted_methods_take pool bytes x fits e =
       raws = r.raws;
     }
 
+-- a count of methods is read again, whatever follows
 pub counted_methods_again : (pool : List Entry) (members : List Member) (raws : List RawMethod) (rest : List ℕ) → AllByRecursion IsMember members → length members < 2 ^ 16 → AllZip (IsRawMethod pool) members raws
     → counted_methods_at pool (members_text members ++ rest) ≡ Some (raws, rest)
 unfolding counted_methods_at

@@ -25,10 +25,12 @@ record TakesItems (n : ℕ) (wide : Bool) (bytes : List ℕ) (x : List Entry × 
   count_is : cond wide 1 0 + index_count items ≡ n
   entries_are : spread wide items ≡ x.0
 
+-- the indices of an item and of those behind it
 count_more : (wide : Bool) (k n : ℕ) → cond wide 1 0 + k ≡ n → 0 + (cond wide 2 1 + k) ≡ suc n
 count_more true k n e = omega arith
 count_more false k n e = omega arith
 
+-- the entries of an item and of those behind it
 entries_more : (w wide : Bool) (e first : Entry) (items : List Item) (others : List Entry) → w ≡ wide → e ≡ first → spread wide items ≡ others
     → cond w (e ∷ entry.Unused ∷ entries_of items) (e ∷ entries_of items) ≡ first ∷ others
 unfolding spread
@@ -37,6 +39,7 @@ entries_more true false e first items others p q r = absurd cc
 entries_more false true e first items others p q r = absurd cc
 entries_more false false e first items others p q r = ap (λ (f : Entry). f ∷ entries_of items) q ∙ ap (λ (es : List Entry). first ∷ es) r
 
+-- entries that are read are those of items that are spelled so
 entries_take : (n : ℕ) (wide : Bool) (bytes : List ℕ) (x : List Entry × List ℕ) → IsBytes bytes → entries_at n wide bytes ≡ Some x → TakesItems n wide bytes x
 unfolding entries_at slot_at spread
 entries_take zero true bytes x fits e = absurd cc
@@ -70,6 +73,7 @@ pub record TakesPool (bytes : List ℕ) (x : List Entry × List ℕ) : Type 0 wh
   pub taken : Takes bytes (u2 (1 + index_count items) ++ flat_map item_text items) x.1
   pub entries_are : x.0 ≡ entry.Unused ∷ entries_of items
 
+-- a pool that is read is spelled so
 pub pool_takes : (bytes : List ℕ) (x : List Entry × List ℕ) → IsBytes bytes → pool_at bytes ≡ Some x → TakesPool bytes x
 unfolding pool_at indexed_at spread
 pool_takes bytes x fits e =
@@ -91,6 +95,7 @@ pool_takes bytes x fits e =
       entries_are = ap (λ (es : List Entry). entry.Unused ∷ es) (sym r.entries_are);
     })
 
+-- an item and the items behind it are read one after the other
 one_item_more : (wide : Bool) (n : ℕ) (bytes after rest : List ℕ) (e : Entry) (es : List Entry) → item_at bytes ≡ Some (e, wide, after) → entries_at n false after ≡ Some (es, rest)
     → entries_at (cond wide 2 1 + n) false bytes ≡ Some (cond wide (e ∷ entry.Unused ∷ es) (e ∷ es), rest)
 unfolding entries_at slot_at
@@ -106,6 +111,7 @@ one_item_more false n bytes after rest e es h others =
     ∙ bind_is (item_at bytes) (λ first. entries_at n first.1 first.2 >>= λ x. Some (first.0 ∷ x.0, x.1)) (e, false, after) h
     ∙ bind_is (entries_at n false after) (λ x. Some (e ∷ x.0, x.1)) (es, rest) others
 
+-- items are read again, whatever follows
 entries_again : (items : List Item) (rest : List ℕ) → AllByRecursion IsItem items → entries_at (index_count items) false (flat_map item_text items ++ rest) ≡ Some (entries_of items, rest)
 unfolding entries_at
 entries_again [] rest fits = refl
@@ -114,6 +120,7 @@ entries_again (item ∷ items) rest fits =
     ap (entries_at (index_count (item ∷ items)) false) regrouped
     ∙ one_item_more (is_wide item) (index_count items) (item_text item ++ (flat_map item_text items ++ rest)) (flat_map item_text items ++ rest) rest (entry_of item) (entries_of items) (item_again item (flat_map item_text items ++ rest) fits.0) (entries_again items rest fits.1)
 
+-- a pool is read again, whatever follows
 pub pool_again : (items : List Item) (rest : List ℕ) → AllByRecursion IsItem items → 1 + index_count items < 2 ^ 16
     → pool_at ((u2 (1 + index_count items) ++ flat_map item_text items) ++ rest) ≡ Some (entry.Unused ∷ entries_of items, rest)
 unfolding pool_at indexed_at

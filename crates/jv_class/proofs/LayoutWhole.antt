@@ -22,15 +22,18 @@ use Rattle.jv_class.proofs.LayoutMembers.{members_text, counted_methods_take, co
 
 -- ---- the head of the file
 
+-- the magic number and the versions
 abbrev header_text : ℕ → ℕ → List ℕ
 header_text minor major = 0xCA ∷ 0xFE ∷ 0xBA ∷ 0xBE ∷ u2 minor ++ u2 major
 
+-- they stand at the front
 record TakesHeader (bytes : List ℕ) (x : ℕ × List ℕ) : Type 0 where
   minor : ℕ
   minor_fits : minor < 2 ^ 16
   major_fits : x.0 < 2 ^ 16
   taken : Takes bytes (header_text minor x.0) x.1
 
+-- a head that is read is spelled so
 header_takes : (bytes : List ℕ) (x : ℕ × List ℕ) → IsBytes bytes → header_at bytes ≡ Some x → TakesHeader bytes x
 unfolding header_at
 header_takes bytes x fits e =
@@ -44,6 +47,7 @@ header_takes bytes x fits e =
     let made : ℕ × List ℕ = (b.0.1, b.0.2) in
     given_as (λ (y : ℕ × List ℕ). TakesHeader bytes y) made x b.2 (record { minor = b.0.0; minor_fits = t.1; major_fits = t.2; taken = whole })
 
+-- a head is read again, whatever follows
 header_again : (minor major : ℕ) (rest : List ℕ) → minor < 2 ^ 16 → major < 2 ^ 16 → header_at (header_text minor major ++ rest) ≡ Some (major, rest)
 unfolding header_at
 header_again minor major rest lt lt' =
@@ -51,9 +55,11 @@ header_again minor major rest lt lt' =
     bind_is (u4_at (u4 0xCAFEBABE ++ after)) (λ magic. cond (eqb magic.0 0xCAFEBABE) (pair_at magic.1) None >>= λ versions. Some (versions.1, versions.2)) (0xCAFEBABE, after) (u4_again 0xCAFEBABE after (omega arith))
     ∙ bind_is (pair_at ((u2 minor ++ u2 major) ++ rest)) (λ versions. Some (versions.1, versions.2)) (minor, major, rest) (pair_again minor major rest lt lt')
 
+-- access flags, the two classes, no interfaces and no fields
 abbrev names_text : ℕ → ℕ → ℕ → List ℕ
 names_text access this super = u2 access ++ u2 this ++ u2 super ++ u2 0 ++ u2 0
 
+-- they stand at the front
 record TakesNames (bytes : List ℕ) (x : ℕ × ℕ × List ℕ) : Type 0 where
   access : ℕ
   access_fits : access < 2 ^ 16
@@ -61,6 +67,7 @@ record TakesNames (bytes : List ℕ) (x : ℕ × ℕ × List ℕ) : Type 0 where
   super_fits : x.1 < 2 ^ 16
   taken : Takes bytes (names_text access x.0 x.1) x.2
 
+-- what is read between the pool and the methods is spelled so
 names_take : (bytes : List ℕ) (x : ℕ × ℕ × List ℕ) → IsBytes bytes → names_at bytes ≡ Some x → TakesNames bytes x
 unfolding names_at
 names_take bytes x fits e =
@@ -79,6 +86,7 @@ names_take bytes x fits e =
     let no_fields : Takes bytes (names_text a.0.0 b.0.0 b.0.1) c.0.2 = subst (λ (k : ℕ). Takes bytes ((u2 a.0.0 ++ (u2 b.0.0 ++ u2 b.0.1)) ++ (u2 0 ++ u2 k)) c.0.2) (eqb-true c.0.1 0 h.0) no_interfaces in
     given_as (λ (y : ℕ × ℕ × List ℕ). TakesNames bytes y) made x h.1 (record { access = a.0.0; access_fits = s.1; this_fits = t.1; super_fits = t.2; taken = no_fields })
 
+-- what stands between the pool and the methods is read again, whatever follows
 names_again : (access this super : ℕ) (rest : List ℕ) → access < 2 ^ 16 → this < 2 ^ 16 → super < 2 ^ 16 → names_at (names_text access this super ++ rest) ≡ Some (this, super, rest)
 unfolding names_at
 names_again access this super rest lt lt' lt'' =
@@ -95,21 +103,27 @@ file_regroup : (head count items a b c d e method_count methods attributes : Lis
     ≡ (((head ++ (count ++ items)) ++ (a ++ b ++ c ++ d ++ e)) ++ (method_count ++ methods)) ++ attributes
 file_regroup head count items a b c d e method_count methods attributes = simp append_assoc
 
+-- an outline by its parts
 abbrev outline_of : ℕ → List Entry → ℕ → ℕ → List RawMethod → Outline
 outline_of major pool this super methods = record { major = major; pool = pool; this_class = this; super_class = super; methods = methods }
 
+-- nothing may be left
 abbrev ended : Outline → List ℕ → Option Outline
 ended o rest = cond (eqb (length rest) 0) (Some o) None
 
+-- what is read behind the methods
 abbrev after_methods : ℕ → List Entry → ℕ → ℕ → List RawMethod × List ℕ → Option Outline
 after_methods major pool this super methods = passed_at methods.1 >>= λ rest. ended (outline_of major pool this super methods.0) rest
 
+-- what is read behind the two classes
 abbrev after_names : ℕ → List Entry → ℕ × ℕ × List ℕ → Option Outline
 after_names major pool names = counted_methods_at pool names.2 >>= λ methods. after_methods major pool names.0 names.1 methods
 
+-- what is read behind the pool
 abbrev after_pool : ℕ → List Entry × List ℕ → Option Outline
 after_pool major pool = names_at pool.1 >>= λ names. after_names major pool.0 names
 
+-- what is read behind the head
 abbrev after_header : ℕ × List ℕ → Option Outline
 after_header header = pool_at header.1 >>= λ pool. after_pool header.0 pool
 
@@ -146,6 +160,7 @@ outline_takes bytes o fits e =
     let outline : IsOutlineOf file made = record { major = refl; pool = pool.entries_are; this_class = refl; super_class = refl; methods = methods.raws } in
     given_as (λ (p : Outline). IsOutline bytes p) made o g.1 (file, is_file, text_is, outline)
 
+-- an outline is known by what it is the outline of
 outline_is : (f : File) (o : Outline) → IsOutlineOf f o → outline_of f.major (entry.Unused ∷ entries_of f.items) f.this_class f.super_class o.methods ≡ o
 outline_is f o h =
     ap (λ (n : ℕ). outline_of n (entry.Unused ∷ entries_of f.items) f.this_class f.super_class o.methods) (sym h.major)
@@ -153,6 +168,7 @@ outline_is f o h =
     ∙ ap (λ (n : ℕ). outline_of o.major o.pool n f.super_class o.methods) (sym h.this_class)
     ∙ ap (λ (n : ℕ). outline_of o.major o.pool o.this_class n o.methods) (sym h.super_class)
 
+-- a file is read as its outline
 file_again : (f : File) (o : Outline) → IsFile f → IsOutlineOf f o → outline_at (file_text f) ≡ Some o
 unfolding outline_at
 file_again f o h kept =
@@ -191,10 +207,12 @@ outline_again bytes o h = ap outline_at h.2 ∙ file_again h.0 o h.1 h.3
 pub one_outline_lem : (bytes : List ℕ) (o p : Outline) → IsOutline bytes o → IsOutline bytes p → o ≡ p
 one_outline_lem bytes o p h k = some_is o p (sym (outline_again bytes o h) ∙ outline_again bytes p k)
 
+-- what a reader that gives this answers is an outline of the bytes
 pub is_found : (bytes : List ℕ) (r : Result Outline ReadError) → IsBytes bytes → Gives (λ x. x) r (outline_at bytes) → IfOk r (IsOutline bytes)
 is_found bytes (Ok o) fits given = outline_takes bytes o fits given
 is_found bytes (Err e) fits given = tt
 
+-- where such a reader answers Malformed there is no outline
 pub is_malformed : (bytes : List ℕ) (r : Result Outline ReadError) → Gives (λ x. x) r (outline_at bytes) → r ≡ Err errors.Malformed → (o : Outline) → IsOutline bytes o → ⊥
 is_malformed bytes (Ok o) given e p h = absurd cc
 is_malformed bytes (Err errors.Memory) given e p h = absurd cc

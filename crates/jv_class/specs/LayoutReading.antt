@@ -29,33 +29,38 @@ pair_at bytes = do
 abbrev pub is_wide_tag : ℕ → Bool
 is_wide_tag tag = tag == 5 || tag == 6
 
--- an item behind its tag: its entry, whether it takes two indices, and what is left
+-- an item that is not kept, behind its tag: its entry, whether it takes two indices, and what is left
 unfoldable pub other_at : ℕ → List ℕ → Option (Entry × Bool × List ℕ)
 other_at tag bytes = do
   width ← other_width tag
   content ← bytes_at bytes width
   Some (entry.Unused, is_wide_tag tag, content.1)
 
+-- a text behind its tag
 unfoldable pub utf8_at : List ℕ → Option (Entry × Bool × List ℕ)
 utf8_at bytes = do
   text ← text_at bytes
   Some (entry.Utf8 text.0, false, text.1)
 
+-- a class behind its tag
 unfoldable pub class_at : List ℕ → Option (Entry × Bool × List ℕ)
 class_at bytes = do
   name ← u2_at bytes
   Some (entry.Class name.0, false, name.1)
 
+-- a method of a class behind its tag
 unfoldable pub methodref_at : List ℕ → Option (Entry × Bool × List ℕ)
 methodref_at bytes = do
   pair ← pair_at bytes
   Some (entry.Methodref pair.0 pair.1, false, pair.2)
 
+-- a name and a descriptor behind their tag
 unfoldable pub name_and_type_at : List ℕ → Option (Entry × Bool × List ℕ)
 name_and_type_at bytes = do
   pair ← pair_at bytes
   Some (entry.NameAndType pair.0 pair.1, false, pair.2)
 
+-- an item behind its tag, whichever it is
 unfoldable pub tagged_at : ℕ → List ℕ → Option (Entry × Bool × List ℕ)
 tagged_at tag bytes =
     if tag == 1 then utf8_at bytes else
@@ -149,6 +154,7 @@ one_code_at pool bytes = do
 
 -- ---- methods
 
+-- a method
 unfoldable pub method_at : List Entry → List ℕ → Option (RawMethod × List ℕ)
 method_at pool bytes = do
   access ← u2_at bytes

@@ -66,8 +66,8 @@ fn read_all(alloc: Global, bytes: &[u8]) -> Result<Outline, ReadError>
 }
 
 /// Reads the layout of a class file whose methods have one `Code` each and which has neither interfaces
-/// nor fields (JVMS 4.1). `Malformed` is answered exactly where the bytes aren't such a file. What the
-/// form doesn't look at is passed over by its length and takes no memory.
+/// nor fields (JVMS 4.1). Bytes that aren't such a file give `Malformed`, or `Memory` where memory ran
+/// out before that was seen. What isn't kept is passed over by its length and takes no memory.
 pub fn read_outline(alloc: Global, bytes: &[u8]) -> Result<Outline, ReadError>
     ensures found { IfOk result (IsOutline bytes.now) }
     ensures malformed { result ≡ Err ReadError.Malformed → (o : Outline) → IsOutline bytes.now o → ⊥ }
