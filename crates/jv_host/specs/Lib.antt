@@ -1,4 +1,5 @@
 pub mod Counts
 pub mod Files
 pub mod HostAnswer
+pub mod MemSinkState
 pub mod SinkAnswer

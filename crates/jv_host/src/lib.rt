@@ -2,7 +2,9 @@
 #![tactic(auto)]
 
 mod host;
+mod mem_sink;
 mod sink;
 
 pub use host::{Host, HostCall, HostFault, HostFile};
+pub use mem_sink::MemSink;
 pub use sink::{Sink, SinkFault};

@@ -1,0 +1,12 @@
+-- What a sink in memory is seen as.
+use Rattle.std.specs.Prelude.{ℕ, List}
+
+-- how many bytes it takes per call at most, the numbers of the calls that are to fail, the bytes taken, how many calls
+-- there were, how many failed, and how many lacked memory
+pub record MemSinkState : Type 0 where
+  pub step : ℕ
+  pub fail : List ℕ
+  pub taken : List ℕ
+  pub calls : ℕ
+  pub faults : ℕ
+  pub lacks : ℕ
