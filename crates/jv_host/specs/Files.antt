@@ -29,5 +29,5 @@ class_names files root = map (λ file. file.name) (filter (is_class_under root) 
 pub record Lists (files : List HostFile) (root : List ℕ) (most : ℕ) (names : List (List ℕ)) : Type 0 where
   pub each_once : IsDistinct (pointwise nat_eq) names
   pub only_those : All (Contains (class_names files root)) names
-  pub count : length names ≡ min (length (class_names files root)) most
+  pub count : length names ≡ min most (length (class_names files root))
   pub all : length (class_names files root) ≤ most → IsPermutation (class_names files root) names

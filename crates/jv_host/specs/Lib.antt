@@ -1,5 +1,6 @@
 pub mod Counts
 pub mod Files
 pub mod HostAnswer
+pub mod MemHostState
 pub mod MemSinkState
 pub mod SinkAnswer

@@ -5,7 +5,7 @@ ghost use Rattle.jv_host.specs.Counts.{Rises};
 ghost use Rattle.jv_host.specs.Files.{HasNoTwins, Lists, bytes_of};
 ghost use Rattle.jv_host.specs.HostAnswer.{OnHostFailed, UnlessHostFailed, calls_after};
 
-use jv_types::{Name, Seq};
+use jv_types::{Copied, Name, Seq};
 use std::alloc::{AllocError, AllocFailed, Global};
 
 /// Why a call of a host gives nothing.
@@ -146,4 +146,20 @@ pub trait Host {
         ensures read_faults_kept { read_faults self.new ≡ read_faults self.old }
         ensures failed_now { OnHostFailed result (failed self.new ≡ option_map (λ _. Some (HostCall.WriteFile root.now name.now)) (failed self.old)) }
         ensures failed_kept { UnlessHostFailed result (failed self.new ≡ failed self.old) };
+}
+
+impl Copied for HostCall {
+    fn copy(&self) -> Result<HostCall, AllocError> {
+        match self {
+            HostCall::ListRoot { root } => Ok(HostCall::ListRoot { root: root.copy()? }),
+            HostCall::ReadFile { root, name } => Ok(HostCall::ReadFile {
+                root: root.copy()?,
+                name: name.copy()?,
+            }),
+            HostCall::WriteFile { root, name } => Ok(HostCall::WriteFile {
+                root: root.copy()?,
+                name: name.copy()?,
+            }),
+        }
+    }
 }
