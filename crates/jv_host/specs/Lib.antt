@@ -1,4 +1,5 @@
 pub mod Counts
+pub mod DirHostState
 pub mod Files
 pub mod HostAnswer
 pub mod MemHostState
