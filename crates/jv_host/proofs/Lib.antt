@@ -1,3 +1,6 @@
 pub mod ClassNames
 pub mod Listing
 pub mod Rules
+pub mod TwinLemmas
+pub mod CountLemmas
+pub mod FileLemmas

@@ -7,6 +7,7 @@ mod mem_host;
 mod mem_sink;
 mod sink;
 mod std_sink;
+mod twins;
 
 pub use dir_host::DirHost;
 pub use host::{Host, HostCall, HostFault, HostFile};
@@ -14,3 +15,7 @@ pub use mem_host::MemHost;
 pub use mem_sink::MemSink;
 pub use sink::{Sink, SinkFault};
 pub use std_sink::StdSink;
+pub use twins::has_no_twins;
+
+#[cfg(test)]
+mod tests;
