@@ -19,58 +19,113 @@ fn file(alloc: Global, root: &str, path: &str, bytes: &[u8]) -> Result<HostFile,
     })
 }
 
-fn host(rt: &impl Abort, alloc: Global, fail: &[u64]) -> Result<MemHost, AllocError> {
+fn files(alloc: Global, list: &[(&str, &str, &[u8])]) -> Result<Vec<HostFile>, AllocError> {
     let mut files = Vec::new(alloc);
-    files.push(file(alloc, "app", "B.class", b"bytes of B")?)?;
-    files.push(file(alloc, "app", "p/A.class", b"")?)?;
-    files.push(file(alloc, "app", "notes.txt", b"none")?)?;
-    files.push(file(alloc, "lib", "C.class", b"c")?)?;
+    for (root, path, bytes) in list {
+        files.push(file(alloc, root, path, bytes)?)?;
+    }
+    Ok(files)
+}
+
+fn host(rt: &impl Abort, alloc: Global, fail: &[u64]) -> Result<MemHost, AllocError> {
+    let files = files(
+        alloc,
+        &[
+            ("app", "B.class", b"bytes of B"),
+            ("app", "p/A.class", b""),
+            ("app", "notes.txt", b"none"),
+            ("lib", "C.class", b"c"),
+        ],
+    )?;
     assert!(rt; has_no_twins(files.as_slice()));
     let fail = Seq::from_vec(Vec::from_slice(alloc, fail)?);
     Ok(MemHost::new(alloc, Seq::from_vec(files), fail))
 }
 
+/// The names that a host lists.
+fn listed<H: Host>(
+    host: &mut H,
+    alloc: Global,
+    root: &str,
+    most: usize,
+) -> Result<Vec<Name>, HostFault> {
+    host.list(alloc, &name(alloc, root)?, most)
+}
+
+/// Whether a host gives just these bytes of a file.
+fn reads<H: Host>(
+    host: &mut H,
+    alloc: Global,
+    path: (&str, &str),
+    most: usize,
+    bytes: Option<&[u8]>,
+) -> Result<bool, HostFault> {
+    match host.read(alloc, &name(alloc, path.0)?, &name(alloc, path.1)?, most)? {
+        Some(found) => Ok(bytes.is_some_and(|bytes| found.as_slice() == bytes)),
+        None => Ok(bytes.is_none()),
+    }
+}
+
+fn write<H: Host>(
+    host: &mut H,
+    alloc: Global,
+    path: (&str, &str),
+    bytes: &[u8],
+) -> Result<(), HostFault> {
+    host.write(alloc, &name(alloc, path.0)?, &name(alloc, path.1)?, bytes)
+}
+
 #[test]
 fn finds_twins(rt: HostRuntime) -> Result<(), Fail> {
-    let alloc = rt.alloc();
-    let mut files = Vec::new(alloc);
-    files.push(file(alloc, "app", "A.class", b"")?)?;
-    files.push(file(alloc, "lib", "A.class", b"")?)?;
-    assert!(rt; has_no_twins(files.as_slice()));
-    files.push(file(alloc, "app", "A.class", b"other")?)?;
-    assert!(rt; !has_no_twins(files.as_slice()));
+    let apart = files(
+        rt.alloc(),
+        &[("app", "A.class", b""), ("lib", "A.class", b"")],
+    )?;
+    assert!(rt; has_no_twins(apart.as_slice()));
+    let alike = files(
+        rt.alloc(),
+        &[
+            ("app", "A.class", b""),
+            ("lib", "A.class", b""),
+            ("app", "A.class", b"x"),
+        ],
+    )?;
+    assert!(rt; !has_no_twins(alike.as_slice()));
     Ok(())
 }
 
 #[test]
-fn reads_from_memory(rt: HostRuntime) -> Result<(), Fail> {
+fn lists_in_memory(rt: HostRuntime) -> Result<(), Fail> {
     let alloc = rt.alloc();
     let mut host = host(&rt, alloc, &[])?;
-    let app = name(alloc, "app")?;
-    let names = host.list(alloc, &app, 10)?;
+    let names = listed(&mut host, alloc, "app", 10)?;
     assert_eq!(rt; names.len(), 2);
     assert_eq!(rt; names[0].as_slice(), b"B.class".as_slice());
     assert_eq!(rt; names[1].as_slice(), b"p/A.class".as_slice());
-    assert_eq!(rt; host.list(alloc, &app, 1)?.len(), 1);
-    let b = name(alloc, "B.class")?;
-    let found = host.read(alloc, &app, &b, 5)?.ok_or("no file")?;
-    assert_eq!(rt; found.as_slice(), b"bytes".as_slice());
-    let c = name(alloc, "C.class")?;
-    assert!(rt; host.read(alloc, &app, &c, 5)?.is_none());
+    assert_eq!(rt; listed(&mut host, alloc, "app", 1)?.len(), 1);
+    Ok(())
+}
+
+#[test]
+fn reads_in_memory(rt: HostRuntime) -> Result<(), Fail> {
+    let alloc = rt.alloc();
+    let mut host = host(&rt, alloc, &[3])?;
+    assert!(rt; reads(&mut host, alloc, ("app", "B.class"), 5, Some(b"bytes"))?);
+    assert!(rt; reads(&mut host, alloc, ("app", "C.class"), 5, None)?);
+    let failed = reads(&mut host, alloc, ("app", "B.class"), 5, None);
+    assert!(rt; failed == Err(HostFault::Failed));
     assert!(rt; host.written().is_empty());
     Ok(())
 }
 
 #[test]
-fn writes_and_fails_in_memory(rt: HostRuntime) -> Result<(), Fail> {
+fn writes_in_memory(rt: HostRuntime) -> Result<(), Fail> {
     let alloc = rt.alloc();
-    let mut host = host(&rt, alloc, &[2, 4])?;
-    let out = name(alloc, "out")?;
-    let a = name(alloc, "A.class")?;
-    host.write(alloc, &out, &a, b"first")?;
-    assert!(rt; host.write(alloc, &out, &a, b"second") == Err(HostFault::Failed));
-    host.write(alloc, &out, &a, b"third")?;
-    assert!(rt; matches!(host.read(alloc, &out, &a, 9), Err(HostFault::Failed)));
+    let mut host = host(&rt, alloc, &[2])?;
+    write(&mut host, alloc, ("out", "A.class"), b"first")?;
+    let failed = write(&mut host, alloc, ("out", "A.class"), b"second");
+    assert!(rt; failed == Err(HostFault::Failed));
+    write(&mut host, alloc, ("out", "A.class"), b"third")?;
     let written = host.written();
     assert_eq!(rt; written.len(), 2);
     assert_eq!(rt; written[0].bytes.as_slice(), b"first".as_slice());
@@ -80,9 +135,8 @@ fn writes_and_fails_in_memory(rt: HostRuntime) -> Result<(), Fail> {
 
 #[test]
 fn takes_in_memory(rt: HostRuntime) -> Result<(), Fail> {
-    let alloc = rt.alloc();
-    let fail = Seq::from_vec(Vec::from_slice(alloc, &[2])?);
-    let mut sink = MemSink::new(alloc, 3, fail);
+    let fail = Seq::from_vec(Vec::from_slice(rt.alloc(), &[2])?);
+    let mut sink = MemSink::new(rt.alloc(), 3, fail);
     assert!(rt; sink.write(b"line") == Ok(3));
     assert!(rt; sink.write(b"e") == Err(SinkFault::Failed));
     assert!(rt; sink.write(b"e") == Ok(1));
@@ -90,35 +144,38 @@ fn takes_in_memory(rt: HostRuntime) -> Result<(), Fail> {
     Ok(())
 }
 
+/// A folder of this process.
+fn folder(rt: &HostRuntime, alloc: Global) -> io::Result<String> {
+    let temp = env::temp_dir(rt)?;
+    let number = std::process::id(rt.process());
+    let temp = temp.to_string_lossy();
+    Ok(format!(in alloc; "{temp}/jv_host-{number}")?)
+}
+
 #[test]
 fn keeps_folders(rt: HostRuntime) -> Result<(), Fail> {
     let alloc = rt.alloc();
-    let temp = env::temp_dir(&rt)?;
-    let number = std::process::id(rt.process());
-    let temp = temp.to_string_lossy();
-    let text = format!(in alloc; "{temp}/jv_host-{number}")?;
-    let root = name(alloc, text.as_str())?;
+    let folder = folder(&rt, alloc)?;
+    let root = folder.as_str();
     let mut host = DirHost::new(rt.clone()?);
-    assert!(rt; matches!(host.list(alloc, &root, 10), Err(HostFault::Failed)));
-    let object = name(alloc, "java/lang/Object.class")?;
-    host.write(alloc, &root, &object, b"bytes")?;
-    host.write(alloc, &root, &name(alloc, "notes.txt")?, b"none")?;
-    let names = host.list(alloc, &root, 10)?;
+    assert!(rt; listed(&mut host, alloc, root, 10).is_err());
+    write(&mut host, alloc, (root, "java/lang/Object.class"), b"bytes")?;
+    write(&mut host, alloc, (root, "notes.txt"), b"none")?;
+    let names = listed(&mut host, alloc, root, 10)?;
     assert_eq!(rt; names.len(), 1);
     assert_eq!(rt; names[0].as_slice(), b"java/lang/Object.class".as_slice());
-    let found = host.read(alloc, &root, &object, 4)?.ok_or("no file")?;
-    assert_eq!(rt; found.as_slice(), b"byte".as_slice());
     assert!(rt;
-        host.read(alloc, &root, &name(alloc, "Other.class")?, 4)?
-            .is_none()
+        reads(
+            &mut host,
+            alloc,
+            (root, "java/lang/Object.class"),
+            4,
+            Some(b"byte")
+        )?
     );
-    assert!(rt;
-        matches!(
-            host.read(alloc, &root, &name(alloc, "java")?, 4),
-            Err(HostFault::Failed)
-        )
-    );
-    fs::remove_dir_all(&rt, text.as_str())?;
+    assert!(rt; reads(&mut host, alloc, (root, "Other.class"), 4, None)?);
+    assert!(rt; reads(&mut host, alloc, (root, "java"), 4, None) == Err(HostFault::Failed));
+    fs::remove_dir_all(&rt, root)?;
     Ok(())
 }
 
@@ -137,12 +194,10 @@ impl io::Write for Full {
 }
 
 #[test]
-fn prints(rt: HostRuntime) -> Result<(), Fail> {
+fn prints(rt: HostRuntime) {
     let mut sink = StdSink::new(io::writer(&rt));
     assert!(rt; sink.write(b"jv_host\n") == Ok(8));
     assert!(rt; sink.write(b"") == Ok(0));
     let mut full = StdSink::new(Full);
-    assert!(rt; full.write(b"") == Ok(0));
     assert!(rt; full.write(b"x") == Err(SinkFault::Failed));
-    Ok(())
 }
