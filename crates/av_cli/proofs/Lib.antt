@@ -11,3 +11,4 @@ pub mod Callees
 pub mod Adding
 pub mod InForm
 pub mod CallGraph
+pub mod Classified

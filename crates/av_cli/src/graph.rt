@@ -1,7 +1,10 @@
 ghost use Rattle.av_cli.specs.Graphs.{IsGraphOf};
 
+use crate::coverage::{class_lines, form_keeps_range};
+use crate::reach::main_place;
+use jv_class::{ReadError, one_static_class, read_static_class};
 use jv_types::Name;
-use std::alloc::Global;
+use std::alloc::{AllocError, Global};
 use std::collections::BTreeSet;
 
 /// Why bytes have no lines.
@@ -19,8 +22,18 @@ pub enum GraphError {
 pub fn call_graph(alloc: Global, name: &[u8], bytes: &[u8]) -> Result<BTreeSet<Name>, GraphError>
     ensures { IsGraphOf name.now bytes.now result }
 {
-    let _ = BTreeSet::<Name>::new(alloc);
-    let _ = name;
-    let _ = bytes;
-    Err(GraphError::Memory)
+    one_static_class();
+    form_keeps_range();
+    let class = match read_static_class(alloc, name, bytes) {
+        Ok(class) => class,
+        Err(ReadError::Memory) => return Err(GraphError::Memory),
+        Err(ReadError::Malformed) => return Err(GraphError::OutsideForm),
+    };
+    if main_place(&class).is_none() {
+        return Err(GraphError::NoMain);
+    }
+    match class_lines(alloc, &class) {
+        Ok(lines) => Ok(lines),
+        Err(AllocError) => Err(GraphError::Memory),
+    }
 }

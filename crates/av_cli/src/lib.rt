@@ -20,6 +20,5 @@ pub use top::run;
 
 #[cfg(test)]
 mod tests;
-
 #[cfg(test)]
 mod top_tests;

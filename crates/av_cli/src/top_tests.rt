@@ -45,15 +45,11 @@ const HAS_FIELD: [u8; 247] = [
     0xAC, 0x00, 0x00, 0x00, 0x00, 0x00, 0x00,
 ];
 
-const LINES: &str = "edge library p/A main ([Ljava/lang/String;)V\nedge p/A main ([Ljava/lang/String;)V 1 p/A f (I)I\n";
+const LINES: &str =
+    "edge library p/A main ([Ljava/lang/String;)V\nedge p/A main ([Ljava/lang/String;)V 1 p/A f (I)I\n";
 
 /// The root `app` with the file `p/A.class` of these bytes, whose calls of these numbers fail.
-fn host(
-    rt: &impl Abort,
-    alloc: Global,
-    bytes: &[u8],
-    fail: &[u64],
-) -> Result<MemHost, AllocError> {
+fn host(rt: &impl Abort, alloc: Global, bytes: &[u8], fail: &[u64]) -> Result<MemHost, AllocError> {
     let mut files = Vec::new(alloc);
     files.push(HostFile {
         root: Name::from_slice(alloc, b"app")?,

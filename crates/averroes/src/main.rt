@@ -4,9 +4,9 @@
 use av_cli::{Status, run};
 use jv_host::{DirHost, StdSink};
 use std::alloc::{AllocError, Global};
+use std::env;
 use std::io::{self, ErrorKind};
 use std::process::ExitCode;
-use std::env;
 
 /// The words that the program was given, without its own name.
 fn words_given(rt: &HostRuntime) -> io::Result<Vec<String>> {
@@ -32,13 +32,7 @@ fn run_words(rt: &HostRuntime, words: &[String]) -> Result<Status, AllocError> {
     let mut host = DirHost::new(rt.clone()?);
     let mut out = StdSink::new(rt.stdout());
     let mut err = StdSink::new(rt.stderr());
-    Ok(run(
-        rt.alloc(),
-        texts.as_slice(),
-        &mut host,
-        &mut out,
-        &mut err,
-    ))
+    Ok(run(rt.alloc(), texts.as_slice(), &mut host, &mut out, &mut err))
 }
 
 /// The status of a run. Words that aren't text are no command, as no words are.
