@@ -69,6 +69,7 @@ fn sink(rt: &impl Abort, alloc: Global, step: usize, fail: &[u64]) -> Result<Mem
 }
 
 /// A run over `app`, and what it has to give.
+#[derive(Clone, Copy)]
 struct Row {
     words: [&'static str; 3],
     bytes: &'static [u8],
