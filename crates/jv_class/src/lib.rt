@@ -25,3 +25,6 @@ pub use outline::{Entry, Outline, RawMethod};
 pub use read::{FILE_LIMIT, one_static_class, read_static_class};
 pub use read_error::ReadError;
 pub use static_class::{Instruction, Method, Placed, StaticClass};
+
+#[cfg(test)]
+mod tests;
