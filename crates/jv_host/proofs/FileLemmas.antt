@@ -1,7 +1,7 @@
 -- What the bytes under a root and name say of the files, and what an answer of a host says of both.
-use Rattle.std.proofs.Common.{◌≡◌, ◌<◌, ◌≤◌, ◌⊎◌, inl, inr, ℕ, Bool, true, false, ◌&&◌, cond, List, [], ◌∷◌, ◌++◌, length, min, take, find, Option, Some, None, option_map, IfSome, Contains, nat_eq, ap, sym, ◌∙◌, refl, subst, true≢false, arith}
+use Rattle.std.proofs.Common.{◌≡◌, ◌<◌, ◌≤◌, ◌⊎◌, inl, inr, ℕ, Bool, true, false, ◌&&◌, cond, List, [], ◌∷◌, length, take, find, Option, Some, None, option_map, IfSome, Contains, ap, sym, ◌∙◌, refl, subst, true≢false, arith}
 use Rattle.std.specs.List.{AllByRecursion, IsDistinct}
-use Rattle.std.specs.Cmp.Lexicographic.{pointwise, bytes_decides}
+use Rattle.std.specs.Cmp.Lexicographic.{bytes_decides}
 use Rattle.std.proofs.lemmas.List.{take_all, length-take}
 use Rattle.std.proofs.lemmas.List.Elements.{Contains-append_left, Contains-append_right, Contains-append_cases, Contains-push, Contains-push_cases}
 use Rattle.jv_host.specs.declared.host.HostFile.{HostFile}

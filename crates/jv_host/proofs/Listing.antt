@@ -1,5 +1,5 @@
 -- The first names under a root are a listing of it.
-use Rattle.std.proofs.Common.{◌≡◌, ◌≤◌, ℕ, zero, suc, Bool, true, false, ◌&&◌, cond, List, [], ◌∷◌, length, min, take, map, filter, All, Contains, nat_eq, ap, sym, ◌∙◌, refl, subst, true≢false}
+use Rattle.std.proofs.Common.{◌≡◌, ℕ, zero, suc, Bool, true, false, ◌&&◌, cond, List, [], ◌∷◌, take, map, filter, Contains, nat_eq, sym, ◌∙◌, refl, subst, true≢false}
 use Rattle.std.specs.List.{AllByRecursion, IsDistinct}
 use Rattle.std.specs.List.Sorted.{IsPermutation}
 use Rattle.std.specs.Cmp.Lexicographic.{pointwise, bytes_decides}

@@ -1,5 +1,5 @@
 -- A file adds its name where there is room and it is a class file under the root.
-use Rattle.std.proofs.Common.{rules, ◌≡◌, ◌<◌, ◌≤◌, [], ◌∷◌, ◌++◌, length, true, false, arith, ap, sym, ◌∙◌, subst}
+use Rattle.std.proofs.Common.{rules, ◌<◌, ◌≤◌, [], ◌∷◌, ◌++◌, length, arith, ap, sym, ◌∙◌}
 use Rattle.std.proofs.lemmas.Grind.{common_steps}
 use Rattle.jv_host.specs.Files.{class_names}
 use Rattle.jv_host.proofs.ClassNames.{names-taken, names-full, names-passed}

@@ -1,5 +1,5 @@
 -- The first of the files that are left has a twin behind it, or the others decide.
-use Rattle.std.proofs.Common.{◌≡◌, [], List, sym, ◌∙◌, subst, refl, true≢false}
+use Rattle.std.proofs.Common.{List, sym, ◌∙◌, subst, refl, true≢false}
 use Rattle.std.proofs.lemmas.List.{nil_from_length}
 use Rattle.jv_host.specs.declared.host.HostFile.{HostFile}
 use Rattle.jv_host.specs.Files.{HasNoTwins}
