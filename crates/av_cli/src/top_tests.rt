@@ -115,51 +115,56 @@ fn prints_the_calls_of_a_class(rt: HostRuntime) -> Result<(), Fail> {
 
 #[test]
 fn refuses_and_says_why(rt: HostRuntime) -> Result<(), Fail> {
+    let refused = Row {
+        status: Status::Refused,
+        out: "",
+        ..DONE
+    };
     let rows = [
         Row {
             words: ["calls", "app", "a b%"],
-            status: Status::Refused,
-            out: "",
             err: "averroes: refused 20 NoMain a%20b%25\n",
-            ..DONE
+            ..refused
         },
         Row {
             bytes: &HAS_FIELD,
-            status: Status::Refused,
-            out: "",
             err: "averroes: refused 22 NotBuiltYet p/A.class\n",
-            ..DONE
+            ..refused
         },
         Row {
             bytes: &CALLS_F[..230],
-            status: Status::Refused,
-            out: "",
             err: "averroes: refused 22 NotBuiltYet p/A.class\n",
-            ..DONE
-        },
-        Row {
-            words: ["call", "app", "p/A"],
-            status: Status::Usage,
-            out: "",
-            err: "averroes: usage: calls ROOT NAME\n",
-            ..DONE
-        },
-        Row {
-            host_fail: &[1],
-            status: Status::ReadFault,
-            out: "",
-            err: "averroes: read fault p/A.class\n",
-            ..DONE
-        },
-        Row {
-            host_fail: &[1],
-            err_fail: &[1],
-            status: Status::ReadFault,
-            out: "",
-            ..DONE
+            ..refused
         },
     ];
     for row in &rows {
+        check(&rt, rt.alloc(), row)?;
+    }
+    Ok(())
+}
+
+#[test]
+fn answers_other_words_and_faults(rt: HostRuntime) -> Result<(), Fail> {
+    let usage = Row {
+        words: ["call", "app", "p/A"],
+        status: Status::Usage,
+        out: "",
+        err: "averroes: usage: calls ROOT NAME\n",
+        ..DONE
+    };
+    let read_fault = Row {
+        host_fail: &[1],
+        status: Status::ReadFault,
+        out: "",
+        err: "averroes: read fault p/A.class\n",
+        ..DONE
+    };
+    let unheard = Row {
+        err_fail: &[1],
+        err: "",
+        ..read_fault
+    };
+    for row in &[usage, read_fault, unheard] {
         check(&rt, rt.alloc(), row)?;
     }
     Ok(())
