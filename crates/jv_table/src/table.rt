@@ -27,6 +27,12 @@ impl<K: Ord + 'static, R: 'static, const N: usize> Model for Table<K, R, N> {
     ghost invariant = { λ t. (length t.rows.now ≡ N) × IsTrue (rises K.cmp t.rows.now) };
 }
 
+impl<K: Ord + 'static, R: 'static, const N: usize> Drop for Table<K, R, N> {
+    fn drop(self) {
+        let Table { rows: _ } = self;
+    }
+}
+
 impl<K: Ord + 'static, R: 'static, const N: usize> Table<K, R, N> {
     /// The table of these rows.
     pub fn new(rows: &'static [(K, R)]) -> Table<K, R, N>
@@ -38,17 +44,19 @@ impl<K: Ord + 'static, R: 'static, const N: usize> Table<K, R, N> {
     }
 
     /// The row of a key. There is none exactly where no row has a key that is equal to it.
-    pub fn find(&self, key: &K) -> Option<&R>
+    pub fn find(&self, key: &K) -> Option<&'static R>
         ensures found { IfSome result (λ row. IsRowOf K.cmp key.now self.now row.now) }
         ensures none { IfNone result ((row : R) → IsRowOf K.cmp key.now self.now row → ⊥) }
         ensures value { option_copied result ≡ row_of K.cmp key.now self.now }
     {
-        let place = place_of(self.rows, key)?;
-        Some(&self.rows[place].1)
+        match place_of(self.rows, key) {
+            Some(place) => Some(&self.rows[place].1),
+            None => None,
+        }
     }
 
     /// The row at a place. There is none exactly from the place N on.
-    pub fn row(&self, i: usize) -> Option<&R>
+    pub fn row(&self, i: usize) -> Option<&'static R>
         ensures value { option_copied result ≡ option_map (λ row. row.1) (slice_get self.now i) }
         ensures none { IsNone result ↔ (N ≤ i) }
     {
