@@ -1,1 +1,2 @@
+pub mod NameParts
 pub mod TypeKeys

@@ -50,6 +50,11 @@ impl Name {
         self.bytes.as_slice()
     }
 
+    /// The allocator that keeps the bytes.
+    pub fn allocator(&self) -> Global {
+        *self.bytes.allocator()
+    }
+
     /// How many bytes there are.
     pub fn len(&self) -> usize
         ensures { result ≡ length self.now }

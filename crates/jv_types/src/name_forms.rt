@@ -1,6 +1,6 @@
-ghost use Rattle.std.specs.Prelude.{◌≡◌};
+ghost use Rattle.std.specs.Prelude.{◌≡◌, ◌↔◌, ℕ, List, IsTrue};
 ghost use Rattle.std.specs.List.{list_all};
-ghost use Rattle.jv_types.specs.NameForms.{may_stand, is_part, is_class_name};
+ghost use Rattle.jv_types.specs.NameForms.{may_stand, is_part, is_plain, is_class_name, is_method_name, IsClassName};
 
 /// Whether a byte may stand in a part of a name.
 fn may_stand(byte: u8) -> bool
@@ -47,3 +47,24 @@ pub fn is_class_name(bytes: &[u8]) -> bool
     }
     begun
 }
+
+/// Whether each byte is neither `<` nor `>`.
+fn all_plain(bytes: &[u8]) -> bool
+    ensures { result ≡ list_all is_plain bytes.now }
+{
+    bytes.iter().all(|byte| *byte != b'<' && *byte != b'>')
+}
+
+/// Whether the bytes are the name of a method (JVMS 4.2.2): a part without `<` and `>`, or `<init>` or
+/// `<clinit>`.
+pub fn is_method_name(bytes: &[u8]) -> bool
+    ensures { result ≡ is_method_name bytes.now }
+{
+    is_part(bytes)
+        && (all_plain(bytes) || bytes == b"<init>".as_slice() || bytes == b"<clinit>".as_slice())
+}
+
+/// A class name is one part or more, joined by `/`. This does nothing, and its contract is the law.
+pub fn class_names_are_parts()
+    ensures { (bytes : List ℕ) → IsTrue (is_class_name bytes) ↔ IsClassName bytes }
+{}
