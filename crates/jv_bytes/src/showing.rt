@@ -40,6 +40,7 @@ impl ShownByte {
         }
     }
 
+    /// The bytes of the shown form.
     pub fn as_slice(&self) -> &[u8]
         ensures { result.now ≡ self.now }
     {

@@ -1,1 +1,3 @@
+pub mod NameForms
 pub mod Rules
+pub mod Types

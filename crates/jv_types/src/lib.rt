@@ -3,14 +3,28 @@
 
 mod access;
 mod copied;
+mod copied_in;
+mod desc;
+mod ids;
 mod name;
+mod name_forms;
+mod raw_handler;
+mod references;
 mod refusal;
 mod rule;
 mod seq;
+mod shapes;
 
 pub use access::Access;
 pub use copied::Copied;
+pub use copied_in::CopiedIn;
+pub use desc::{Desc, MethodDesc, PrimType as Prim, RefType};
+pub use ids::{ClassId, FieldId, MethodId};
 pub use name::Name;
+pub use name_forms::{class_names_are_parts, is_class_name, is_method_name, is_part};
+pub use raw_handler::RawHandler;
+pub use references::{FieldRef, MethodRef};
 pub use refusal::{Refusal, RulePlace};
 pub use rule::Rule;
 pub use seq::Seq;
+pub use shapes::{FieldShape, MethodShape, Shape};

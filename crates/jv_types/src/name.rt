@@ -44,10 +44,16 @@ impl Name {
         self.bytes
     }
 
+    /// The bytes, lent.
     pub fn as_slice(&self) -> &[u8]
         ensures { result.now ≡ self.now }
     {
         self.bytes.as_slice()
+    }
+
+    /// The allocator that keeps the bytes.
+    pub fn allocator(&self) -> Global {
+        *self.bytes.allocator()
     }
 
     /// How many bytes there are.

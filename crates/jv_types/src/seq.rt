@@ -2,6 +2,7 @@ ghost use Rattle.std.specs.Prelude.{◌≡◌, List, [], ◌∷◌, ◌++◌, le
 ghost use Rattle.std.specs.Cmp.Lexicographic.{slice_cmp, slice_partial_cmp};
 
 use crate::copied::Copied;
+use crate::copied_in::CopiedIn;
 use std::alloc::{AllocError, AllocFailed, Global};
 use std::cmp::Ordering;
 use std::marker::Model;
@@ -48,10 +49,16 @@ impl<T> Seq<T> {
         self.items
     }
 
+    /// The elements, lent.
     pub fn as_slice(&self) -> &[T]
         ensures { result.now ≡ self.now }
     {
         self.items.as_slice()
+    }
+
+    /// The allocator that keeps the list.
+    pub fn allocator(&self) -> Global {
+        *self.items.allocator()
     }
 
     /// How many elements there are.
@@ -76,6 +83,16 @@ impl<T: Copied + Drop> Copied for Seq<T> {
         let mut copies = Vec::new(*self.items.allocator());
         for item in self.items.as_slice() {
             copies.push(item.copy()?)?;
+        }
+        Ok(Seq { items: copies })
+    }
+}
+
+impl<T: CopiedIn + Drop> CopiedIn for Seq<T> {
+    fn copy_in(&self, alloc: Global) -> Result<Seq<T>, AllocError> {
+        let mut copies = Vec::new(alloc);
+        for item in self.items.as_slice() {
+            copies.push(item.copy_in(alloc)?)?;
         }
         Ok(Seq { items: copies })
     }

@@ -1,0 +1,5 @@
+pub mod Agreement
+pub mod DescReading
+pub mod Fronts
+pub mod Layers
+pub mod RefReading

@@ -1,0 +1,14 @@
+//! Constant tables: rows in order of their keys.
+#![tactic(auto)]
+
+mod class_tables;
+mod table;
+
+pub use class_tables::{
+    FrameGroup, FrameRow, TagRow, TypeRow, frame_kind, frame_kinds, pool_tag, pool_tags, type_tag,
+    type_tags,
+};
+pub use table::Table;
+
+#[cfg(test)]
+mod tests;
