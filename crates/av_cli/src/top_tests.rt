@@ -176,6 +176,10 @@ fn stops_where_the_output_fails(rt: HostRuntime) -> Result<(), Fail> {
         (&[1], ""),
         (&[2], "edge library p/A main ([Ljava/lang/String;)V"),
         (&[3], "edge library p/A main ([Ljava/lang/String;)V\n"),
+        (
+            &[4],
+            "edge library p/A main ([Ljava/lang/String;)V\nedge p/A main ([Ljava/lang/String;)V 1 p/A f (I)I",
+        ),
     ];
     for (fail, out) in cuts {
         let row = Row {
