@@ -12,11 +12,11 @@ use Rattle.jv_class.specs.Form.{IsStatic, IsCallee, AreDistinct}
 use Rattle.jv_class.specs.Classes.{named_at}
 use Rattle.jv_class.specs.ClassesHeads.{Heading, has_static, place_of, static_at, static_of, callee_of}
 use Rattle.jv_class.specs.ClassesPlaces.{AreApart}
-use Rattle.jv_class.proofs.ClassesSteps.{bind_some, chosen_some, some_is}
 use Rattle.jv_class.proofs.ClassesPool.{named_takes, named_again, bytes_eq_itself}
 use Rattle.jv_class.proofs.ClassesPlaces.{place_takes, place_again}
 use Rattle.jv_class.proofs.ClassesKinds.{Decides-static}
 use Rattle.jv_class.proofs.ClassesInstructions.{KnowsCallees}
+use Rattle.jv_class.proofs.LayoutFields.{bind_some, past_true, some_is}
 
 -- a method has these flags, this name and this descriptor
 pub record SameHead (h : Heading) (m : Method) : Type 0 where
@@ -55,7 +55,7 @@ distinct_from_apart hs ms z apart i j a b at_i at_j name desc =
 static_takes : (hs : List Heading) (p place : ℕ) → static_at hs p ≡ Some place → (h : Heading) × (slice_get hs place ≡ Some h) × IsStatic h.access × (p ≡ place)
 static_takes hs p place e =
     let a = bind_some (slice_get hs p) (λ h. cond (has_static h.access) (Some p) None) place e in
-    let b = chosen_some (has_static a.0.access) (Some p) place a.2 in
+    let b = past_true (has_static a.0.access) (Some p) place a.2 in
     let same = some_is p place b.1 in
     (a.0, subst (λ (k : ℕ). slice_get hs k ≡ Some a.0) same a.1, (Decides-static a.0.access).0 b.0, same)
 
@@ -64,7 +64,7 @@ unfolding callee_of
 callee_takes pool class hs i place z e =
     let a = bind_some (named_at pool i) (λ n. cond (bytes_eq n.class class.name) (static_of hs n.name n.desc) None) place e in
     let n = a.0 in
-    let b = chosen_some (bytes_eq n.class class.name) (static_of hs n.name n.desc) place a.2 in
+    let b = past_true (bytes_eq n.class class.name) (static_of hs n.name n.desc) place a.2 in
     let c = bind_some (place_of hs n.name n.desc) (static_at hs) place b.1 in
     let s = static_takes hs c.0 place c.2 in
     let t = place_takes hs n.name n.desc place (subst (λ (k : ℕ). place_of hs n.name n.desc ≡ Some k) s.3 c.1) in

@@ -1,94 +1,14 @@
 -- A code that is read has this content, and the content of each code is read.
-use Rattle.std.proofs.Common.{◌≡◌, ℕ, zero, suc, ◌*◌, ◌^◌, ◌<◌, false, cond, ltb, eqb, ◌||◌, List, [], ◌∷◌, ◌++◌, length, Some, None, refl, sym, ap, subst, ◌∙◌, append_assoc, arith}
-use Rattle.std.specs.List.{flat_map, AllByRecursion}
+use Rattle.std.proofs.Common.{◌≡◌, ℕ, ◌*◌, ◌^◌, ◌<◌, false, cond, ltb, eqb, ◌||◌, List, [], ◌++◌, length, Some, None, refl, sym, ap, subst, ◌∙◌, append_assoc, arith}
 use Rattle.std.proofs.lemmas.Bool.{eqb-true}
 use Rattle.std.proofs.lemmas.Bool.Decides.{nat_tests}
 use Rattle.std.proofs.lemmas.List.{append-nil, nil_from_length}
-use Rattle.std.proofs.lemmas.List.Concat.{flat_map-cons}
-use Rattle.jv_class.specs.Layout.{u2, u4, Attribute, attribute_text, IsAttribute, attributes_text, AreAttributes, Code, code_text, IsCode}
+use Rattle.jv_class.specs.Layout.{u2, u4, Attribute, attributes_text, Code, code_text, IsCode}
 use Rattle.jv_class.specs.Reading.{◌>>=◌, u2_at, u4_at, bytes_at}
-use Rattle.jv_class.specs.Classes.{IsBytes, after_attribute, after_attributes, after_counted, code_bytes_at, handlers_at, code_of}
-use Rattle.jv_class.proofs.ClassesSteps.{bind_some, guard_some, chosen_some, some_is}
-use Rattle.jv_class.proofs.ClassesFields.{Takes, Takes-then, u2_takes, u2_again, u4_takes, u4_again, bytes_take, bytes_again}
-
--- an attribute stands before what follows it
-pub record TakesAttribute (bytes rest : List ℕ) : Type 0 where
-  pub attribute : Attribute
-  pub fits : IsAttribute attribute
-  pub takes : Takes bytes (attribute_text attribute) rest
-
-attribute_takes : (bytes rest : List ℕ) → IsBytes bytes → after_attribute bytes ≡ Some rest → TakesAttribute bytes rest
-unfolding after_attribute
-attribute_takes bytes rest fits e =
-    let a = bind_some (u2_at bytes) (λ name. u4_at name.1 >>= λ size. bytes_at size.1 size.0 >>= λ content. Some (content.1)) rest e in
-    let b = bind_some (u4_at a.0.1) (λ size. bytes_at size.1 size.0 >>= λ content. Some (content.1)) rest a.2 in
-    let c = bind_some (bytes_at b.0.1 b.0.0) (λ content. Some (content.1)) rest b.2 in
-    let ta = u2_takes bytes a.0 fits a.1 in
-    let tb = u4_takes a.0.1 b.0 ta.0.rest_fits b.1 in
-    let tc = bytes_take b.0.1 b.0.0 c.0 tb.0.rest_fits c.1 in
-    let tbc = Takes-then a.0.1 (u4 b.0.0) b.0.1 c.0.0 c.0.1 tb.0 tc.0 in
-    let both = Takes-then bytes (u2 a.0.0) a.0.1 (u4 b.0.0 ++ c.0.0) c.0.1 ta.0 tbc in
-    let sized = subst (λ (k : ℕ). Takes bytes (u2 a.0.0 ++ (u4 k ++ c.0.0)) c.0.1) (sym tc.1) both in
-    let whole = subst (λ (r : List ℕ). Takes bytes (u2 a.0.0 ++ (u4 (length c.0.0) ++ c.0.0)) r) (some_is c.0.1 rest c.2) sized in
-    let small : length c.0.0 < 2 ^ 32 = omega (arith, tc.1, tb.1) in
-    record { attribute = record { name = a.0.0; content = c.0.0 }; fits = record { name = ta.1; content = small }; takes = whole }
-
-attribute_again : (a : Attribute) (rest : List ℕ) → IsAttribute a → after_attribute (attribute_text a ++ rest) ≡ Some rest
-unfolding after_attribute
-attribute_again a rest fits =
-    let regrouped : attribute_text a ++ rest ≡ u2 a.name ++ (u4 (length a.content) ++ (a.content ++ rest)) =
-    append_assoc (u2 a.name) (u4 (length a.content) ++ a.content) rest ∙ ap (λ (x : List ℕ). u2 a.name ++ x) (append_assoc (u4 (length a.content)) a.content rest) in
-    ap after_attribute regrouped ∙ rw (u2_again a.name (u4 (length a.content) ++ (a.content ++ rest)) fits.name, u4_again (length a.content) (a.content ++ rest) fits.content, bytes_again a.content rest) refl
-
--- attributes stand before what follows them
-pub record TakesAttributes (count : ℕ) (bytes rest : List ℕ) : Type 0 where
-  pub attributes : List Attribute
-  pub count_is : length attributes ≡ count
-  pub fits : AllByRecursion IsAttribute attributes
-  pub takes : Takes bytes (flat_map attribute_text attributes) rest
-
-attributes_take : (n : ℕ) (bytes rest : List ℕ) → IsBytes bytes → after_attributes n bytes ≡ Some rest → TakesAttributes n bytes rest
-unfolding after_attributes
-attributes_take zero bytes rest fits e =
-    let same = some_is bytes rest e in
-    record { attributes = []; count_is = refl; fits = tt; takes = record { parts = same; rest_fits = subst IsBytes same fits } }
-attributes_take (suc n) bytes rest fits e =
-    let a = bind_some (after_attribute bytes) (after_attributes n) rest e in
-    let first = attribute_takes bytes a.0 fits a.1 in
-    let others = attributes_take n a.0 rest first.takes.rest_fits a.2 in
-    let both = Takes-then bytes (attribute_text first.attribute) a.0 (flat_map attribute_text others.attributes) rest first.takes others.takes in
-    record { attributes = first.attribute ∷ others.attributes; count_is = ap suc others.count_is; fits = (first.fits, others.fits); takes = rw flat_map-cons both }
-
-attributes_again : (others : List Attribute) (rest : List ℕ) → AllByRecursion IsAttribute others → after_attributes (length others) (flat_map attribute_text others ++ rest) ≡ Some rest
-unfolding after_attributes
-attributes_again [] rest fits = refl
-attributes_again (a ∷ others) rest fits =
-    let regrouped : flat_map attribute_text (a ∷ others) ++ rest ≡ attribute_text a ++ (flat_map attribute_text others ++ rest) =
-    ap (λ (x : List ℕ). x ++ rest) (flat_map-cons attribute_text a others) ∙ append_assoc (attribute_text a) (flat_map attribute_text others) rest in
-    ap (after_attributes (suc (length others))) regrouped ∙ rw (attribute_again a (flat_map attribute_text others ++ rest) fits.0, attributes_again others rest fits.1) refl
-
--- a count and as many attributes stand before what follows them
-pub record TakesCounted (bytes rest : List ℕ) : Type 0 where
-  pub attributes : List Attribute
-  pub fits : AreAttributes attributes
-  pub takes : Takes bytes (attributes_text attributes) rest
-
-counted_take : (bytes rest : List ℕ) → IsBytes bytes → after_counted bytes ≡ Some rest → TakesCounted bytes rest
-unfolding after_counted
-counted_take bytes rest fits e =
-    let a = bind_some (u2_at bytes) (λ count. after_attributes count.0 count.1) rest e in
-    let ta = u2_takes bytes a.0 fits a.1 in
-    let tb = attributes_take a.0.0 a.0.1 rest ta.0.rest_fits a.2 in
-    let both = Takes-then bytes (u2 a.0.0) a.0.1 (flat_map attribute_text tb.attributes) rest ta.0 tb.takes in
-    let counted = subst (λ (k : ℕ). Takes bytes (u2 k ++ flat_map attribute_text tb.attributes) rest) (sym tb.count_is) both in
-    let small : length tb.attributes < 2 ^ 16 = omega (arith, tb.count_is, ta.1) in
-    record { attributes = tb.attributes; fits = (small, tb.fits); takes = counted }
-
-counted_again : (all : List Attribute) (rest : List ℕ) → AreAttributes all → after_counted (attributes_text all ++ rest) ≡ Some rest
-unfolding after_counted
-counted_again all rest fits =
-    let regrouped : attributes_text all ++ rest ≡ u2 (length all) ++ (flat_map attribute_text all ++ rest) = append_assoc (u2 (length all)) (flat_map attribute_text all) rest in
-    ap after_counted regrouped ∙ rw (u2_again (length all) (flat_map attribute_text all ++ rest) fits.0, attributes_again all rest fits.1) refl
+use Rattle.jv_class.specs.Classes.{IsBytes, code_bytes_at, handlers_at, code_of}
+use Rattle.jv_class.specs.LayoutReading.{passed_at}
+use Rattle.jv_class.proofs.LayoutAttributes.{passed_takes, passed_again}
+use Rattle.jv_class.proofs.LayoutFields.{bind_some, past_false, past_true, some_is, Takes, Takes-then, u2_takes, u2_again, u4_takes, u4_again, bytes_take, bytes_again}
 
 in_bounds : (n : ℕ) → (eqb n 0 || ltb 65535 n) ≡ false → (0 < n) × (n < 2 ^ 16)
 in_bounds n e = (grind (arith, nat_tests), grind (arith, nat_tests))
@@ -101,7 +21,7 @@ code_bytes_take : (bytes : List ℕ) (x : List ℕ × List ℕ) → IsBytes byte
 unfolding code_bytes_at
 code_bytes_take bytes x fits e =
     let a = bind_some (u4_at bytes) (λ size. cond (eqb size.0 0 || ltb 65535 size.0) None (bytes_at size.1 size.0)) x e in
-    let g = guard_some (eqb a.0.0 0 || ltb 65535 a.0.0) (bytes_at a.0.1 a.0.0) x a.2 in
+    let g = past_false (eqb a.0.0 0 || ltb 65535 a.0.0) (bytes_at a.0.1 a.0.0) x a.2 in
     let ta = u4_takes bytes a.0 fits a.1 in
     let tb = bytes_take a.0.1 a.0.0 x ta.0.rest_fits g.1 in
     let both = Takes-then bytes (u4 a.0.0) a.0.1 x.0 x.1 ta.0 tb.0 in
@@ -114,7 +34,7 @@ unfolding code_bytes_at
 code_bytes_again code rest some few =
     let regrouped : (u4 (length code) ++ code) ++ rest ≡ u4 (length code) ++ (code ++ rest) = append_assoc (u4 (length code)) code rest in
     let small : length code < 2 ^ 32 = omega arith in
-    ap code_bytes_at regrouped ∙ rw (u4_again (length code) (code ++ rest) small, from_bounds (length code) some few, bytes_again code rest) refl
+    ap code_bytes_at regrouped ∙ rw (u4_again (length code) (code ++ rest) small, from_bounds (length code) some few, bytes_again code rest (length code) refl) refl
 
 -- handlers of eight bytes each
 handlers_take : (bytes : List ℕ) (x : ℕ × List ℕ) → IsBytes bytes → handlers_at bytes ≡ Some x → (handlers : List ℕ) × (length handlers ≡ 8 * x.0) × (x.0 < 2 ^ 16) × Takes bytes (u2 x.0 ++ handlers) x.1
@@ -132,7 +52,7 @@ handlers_again : (count : ℕ) (handlers rest : List ℕ) → count < 2 ^ 16 →
 unfolding handlers_at
 handlers_again count handlers rest few sized =
     let regrouped : (u2 count ++ handlers) ++ rest ≡ u2 count ++ (handlers ++ rest) = append_assoc (u2 count) handlers rest in
-    ap handlers_at regrouped ∙ rw (u2_again count (handlers ++ rest) few, ← sized, bytes_again handlers rest) refl
+    ap handlers_at regrouped ∙ rw (u2_again count (handlers ++ rest) few, bytes_again handlers rest (8 * count) sized) refl
 
 -- the content of a Code with this code and as many handlers
 pub record HasCode (content bytes : List ℕ) (handler_count : ℕ) : Type 0 where
@@ -151,27 +71,27 @@ code_parts stack locals count bytes handlers attributes = simp append_assoc
 pub code_takes : (content : List ℕ) (x : List ℕ × ℕ) → IsBytes content → code_of content ≡ Some x → HasCode content x.0 x.1
 unfolding code_of
 code_takes content x fits e =
-    let a = bind_some (u2_at content) (λ stack. u2_at stack.1 >>= λ locals. code_bytes_at locals.1 >>= λ code. handlers_at code.1 >>= λ handlers. after_counted handlers.1 >>= λ rest. cond (eqb (length rest) 0) (Some (code.0, handlers.0)) None) x e in
-    let b = bind_some (u2_at a.0.1) (λ locals. code_bytes_at locals.1 >>= λ code. handlers_at code.1 >>= λ handlers. after_counted handlers.1 >>= λ rest. cond (eqb (length rest) 0) (Some (code.0, handlers.0)) None) x a.2 in
-    let c = bind_some (code_bytes_at b.0.1) (λ code. handlers_at code.1 >>= λ handlers. after_counted handlers.1 >>= λ rest. cond (eqb (length rest) 0) (Some (code.0, handlers.0)) None) x b.2 in
-    let d = bind_some (handlers_at c.0.1) (λ handlers. after_counted handlers.1 >>= λ rest. cond (eqb (length rest) 0) (Some (c.0.0, handlers.0)) None) x c.2 in
-    let f = bind_some (after_counted d.0.1) (λ rest. cond (eqb (length rest) 0) (Some (c.0.0, d.0.0)) None) x d.2 in
-    let g = chosen_some (eqb (length f.0) 0) (Some (c.0.0, d.0.0)) x f.2 in
+    let a = bind_some (u2_at content) (λ stack. u2_at stack.1 >>= λ locals. code_bytes_at locals.1 >>= λ code. handlers_at code.1 >>= λ handlers. passed_at handlers.1 >>= λ rest. cond (eqb (length rest) 0) (Some (code.0, handlers.0)) None) x e in
+    let b = bind_some (u2_at a.0.1) (λ locals. code_bytes_at locals.1 >>= λ code. handlers_at code.1 >>= λ handlers. passed_at handlers.1 >>= λ rest. cond (eqb (length rest) 0) (Some (code.0, handlers.0)) None) x a.2 in
+    let c = bind_some (code_bytes_at b.0.1) (λ code. handlers_at code.1 >>= λ handlers. passed_at handlers.1 >>= λ rest. cond (eqb (length rest) 0) (Some (code.0, handlers.0)) None) x b.2 in
+    let d = bind_some (handlers_at c.0.1) (λ handlers. passed_at handlers.1 >>= λ rest. cond (eqb (length rest) 0) (Some (c.0.0, handlers.0)) None) x c.2 in
+    let f = bind_some (passed_at d.0.1) (λ rest. cond (eqb (length rest) 0) (Some (c.0.0, d.0.0)) None) x d.2 in
+    let g = past_true (eqb (length f.0) 0) (Some (c.0.0, d.0.0)) x f.2 in
     let made : List ℕ × ℕ = (c.0.0, d.0.0) in
     let nothing : f.0 ≡ [] = nil_from_length f.0 (eqb-true _ _ g.0) in
     let ta = u2_takes content a.0 fits a.1 in
     let tb = u2_takes a.0.1 b.0 ta.0.rest_fits b.1 in
     let tc = code_bytes_take b.0.1 c.0 tb.0.rest_fits c.1 in
     let td = handlers_take c.0.1 d.0 tc.0.rest_fits d.1 in
-    let tf = counted_take d.0.1 f.0 td.3.rest_fits f.1 in
-    let tdf = Takes-then c.0.1 (u2 d.0.0 ++ td.0) d.0.1 (attributes_text tf.attributes) f.0 td.3 tf.takes in
+    let tf = passed_takes d.0.1 f.0 td.3.rest_fits f.1 in
+    let tdf = Takes-then c.0.1 (u2 d.0.0 ++ td.0) d.0.1 (attributes_text tf.attributes) f.0 td.3 tf.taken in
     let tcf = Takes-then b.0.1 (u4 (length c.0.0) ++ c.0.0) c.0.1 ((u2 d.0.0 ++ td.0) ++ attributes_text tf.attributes) f.0 tc.0 tdf in
     let tbf = Takes-then a.0.1 (u2 b.0.0) b.0.1 ((u4 (length c.0.0) ++ c.0.0) ++ ((u2 d.0.0 ++ td.0) ++ attributes_text tf.attributes)) f.0 tb.0 tcf in
     let taf = Takes-then content (u2 a.0.0) a.0.1 (u2 b.0.0 ++ ((u4 (length c.0.0) ++ c.0.0) ++ ((u2 d.0.0 ++ td.0) ++ attributes_text tf.attributes))) f.0 ta.0 tbf in
     let whole = u2 a.0.0 ++ (u2 b.0.0 ++ ((u4 (length c.0.0) ++ c.0.0) ++ ((u2 d.0.0 ++ td.0) ++ attributes_text tf.attributes))) in
     let text : content ≡ whole = taf.parts ∙ ap (λ (r : List ℕ). whole ++ r) nothing ∙ append-nil whole in
     let code : Code = record { max_stack = a.0.0; max_locals = b.0.0; bytes = c.0.0; handler_count = d.0.0; handlers = td.0; attributes = tf.attributes } in
-    let fitting : IsCode code = record { max_stack = ta.1; max_locals = tb.1; not_empty = tc.1; short = tc.2; handler_count = td.2; handlers = td.1; attributes = tf.fits } in
+    let fitting : IsCode code = record { max_stack = ta.1; max_locals = tb.1; not_empty = tc.1; short = tc.2; handler_count = td.2; handlers = td.1; attributes = tf.are_attributes } in
     let is = some_is made x g.1 in
     record {
       code = code;
@@ -187,7 +107,7 @@ code_again c fits =
     let attributes = attributes_text c.attributes in
     let handlers = u2 c.handler_count ++ c.handlers in
     let code = u4 (length c.bytes) ++ c.bytes in
-    let nothing : after_counted attributes ≡ Some [] = ap after_counted (sym (append-nil attributes)) ∙ counted_again c.attributes [] fits.attributes in
+    let nothing : passed_at attributes ≡ Some [] = ap passed_at (sym (append-nil attributes)) ∙ passed_again c.attributes [] fits.attributes in
     ap code_of (sym (code_parts c.max_stack c.max_locals c.handler_count c.bytes c.handlers c.attributes))
     ∙ rw (
       u2_again c.max_stack (u2 c.max_locals ++ (code ++ (handlers ++ attributes))) fits.max_stack,

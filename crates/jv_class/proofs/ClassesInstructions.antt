@@ -14,8 +14,8 @@ use Rattle.jv_class.specs.Form.{IsPlainOpcode, IsReturnOpcode, IsCallee, IsInstr
 use Rattle.jv_class.specs.Reading.{◌>>=◌}
 use Rattle.jv_class.specs.Classes.{IsBytes}
 use Rattle.jv_class.specs.ClassesBodies.{is_plain, is_return, before, placed_from}
-use Rattle.jv_class.proofs.ClassesSteps.{bind_some, chosen_some, chosen, some_is}
-use Rattle.jv_class.proofs.ClassesFields.{IsBytes-tail}
+use Rattle.jv_class.proofs.ClassesSteps.{chosen}
+use Rattle.jv_class.proofs.LayoutFields.{bind_some, past_true, some_is, IsBytes-rest}
 
 pub Decides-leb : (a b : ℕ) → Decides (leb a b) (a ≤ b)
 Decides-leb a b = (λ e. grind (arith, nat_tests), λ h. grind (arith, nat_tests))
@@ -55,13 +55,13 @@ unfolding placed_from
 instructions_take pool class callee knows pc [] list fits e = absurd cc
 instructions_take pool class callee knows pc (op ∷ []) list fits e =
     let last : Placed = record { pc = pc; instruction = Return } in
-    let a = chosen_some (is_return op) (Some (last ∷ [])) list e in
+    let a = past_true (is_return op) (Some (last ∷ [])) list e in
     subst (AreInstructions pool class pc (op ∷ [])) (some_is (last ∷ []) list a.1) (op, refl, (Decides-return op).0 a.0, refl, refl)
 instructions_take pool class callee knows pc (op ∷ b ∷ []) list fits e =
     let first : Placed = record { pc = pc; instruction = Plain } in
-    let a = chosen_some (is_plain op) (before first (placed_from callee (pc + 1) (b ∷ []))) list e in
+    let a = past_true (is_plain op) (before first (placed_from callee (pc + 1) (b ∷ []))) list e in
     let d = bind_some (placed_from callee (pc + 1) (b ∷ [])) (λ others. Some (first ∷ others)) list a.1 in
-    let later = instructions_take pool class callee knows (pc + 1) (b ∷ []) d.0 (IsBytes-tail op (b ∷ []) fits) d.1 in
+    let later = instructions_take pool class callee knows (pc + 1) (b ∷ []) d.0 (IsBytes-rest op (b ∷ []) fits) d.1 in
     subst (AreInstructions pool class pc (op ∷ b ∷ [])) (some_is (first ∷ d.0) list d.2) (plain_first pool class pc op (b ∷ []) d.0 a.0 later)
 instructions_take pool class callee knows pc (op ∷ b ∷ c ∷ rest) list fits e =
     let first : Placed = record { pc = pc; instruction = Plain } in
@@ -70,14 +70,14 @@ instructions_take pool class callee knows pc (op ∷ b ∷ c ∷ rest) list fits
     elim (chosen (is_plain op) (before first (placed_from callee (pc + 1) (b ∷ c ∷ rest))) (cond (eqb op 184) called None) (Some list) e) [
       | inl h ↦
           let d = bind_some (placed_from callee (pc + 1) (b ∷ c ∷ rest)) (λ others. Some (first ∷ others)) list h.1 in
-          let later = instructions_take pool class callee knows (pc + 1) (b ∷ c ∷ rest) d.0 (IsBytes-tail op (b ∷ c ∷ rest) fits) d.1 in
+          let later = instructions_take pool class callee knows (pc + 1) (b ∷ c ∷ rest) d.0 (IsBytes-rest op (b ∷ c ∷ rest) fits) d.1 in
           subst (AreInstructions pool class pc (op ∷ b ∷ c ∷ rest)) (some_is (first ∷ d.0) list d.2) (plain_first pool class pc op (b ∷ c ∷ rest) d.0 h.0 later)
       | inr h ↦
-          let a = chosen_some (eqb op 184) called list h.1 in
+          let a = past_true (eqb op 184) called list h.1 in
           let p = bind_some (callee index) (λ place. before (record { pc = pc; instruction = Call place }) (placed_from callee (pc + 3) rest)) list a.1 in
           let call : Placed = record { pc = pc; instruction = Call p.0 } in
           let d = bind_some (placed_from callee (pc + 3) rest) (λ others. Some (call ∷ others)) list p.2 in
-          let rest_fits = IsBytes-tail c rest (IsBytes-tail b (c ∷ rest) (IsBytes-tail op (b ∷ c ∷ rest) fits)) in
+          let rest_fits = IsBytes-rest c rest (IsBytes-rest b (c ∷ rest) (IsBytes-rest op (b ∷ c ∷ rest) fits)) in
           let later = instructions_take pool class callee knows (pc + 3) rest d.0 rest_fits d.1 in
           let small : index < 2 ^ 16 = omega (arith, fits 1, fits 2) in
           let spelled : u2 index ≡ b ∷ c ∷ [] = be_bytes_2 (b ∷ c ∷ []) index refl (two_bytes b c (fits 1) (fits 2)) refl in

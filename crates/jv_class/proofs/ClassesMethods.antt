@@ -16,12 +16,11 @@ use Rattle.jv_class.specs.Reading.{◌>>=◌, u1_at, u2_at}
 use Rattle.jv_class.specs.Classes.{IsBytes, text_at, named_at, code_of}
 use Rattle.jv_class.specs.ClassesBodies.{placed_from, constructor_index, is_object_init, constructor_code}
 use Rattle.jv_class.specs.ClassesHeads.{is_visible, has_static, is_known, Heading, heading_at, body_at, method_at}
-use Rattle.jv_class.proofs.ClassesSteps.{bind_some, chosen_some, some_is}
-use Rattle.jv_class.proofs.ClassesFields.{IsBytes-tail, IsBytes-drop, IsBytes-take, u2_takes, u2_again}
 use Rattle.jv_class.proofs.ClassesCode.{code_takes, code_again}
 use Rattle.jv_class.proofs.ClassesInstructions.{KnowsCallees, instructions_take, instructions_again}
 use Rattle.jv_class.proofs.ClassesPool.{text_takes, text_again, is_named_takes, is_named_again}
 use Rattle.jv_class.proofs.ClassesKinds.{both_true, three_true, Decides-visible, Decides-static, IsStaticKind, IsConstructorKind, known_takes, static_kind_again, constructor_kind_again}
+use Rattle.jv_class.proofs.LayoutFields.{bind_some, past_true, some_is, IsBytes-rest, IsBytes-drop, IsBytes-take, u2_takes, u2_again}
 
 -- ---- a method's texts
 
@@ -41,7 +40,7 @@ heading_takes pool raw h e =
     let a = bind_some (text_at pool raw.name) (λ name. text_at pool raw.desc >>= λ desc. cond ((is_visible name && is_visible desc) && is_known raw.access name desc) (let x : Heading = record { access = raw.access; name = name; desc = desc; code = raw.code } in Some x) None) h e in
     let b = bind_some (text_at pool raw.desc) (λ desc. cond ((is_visible a.0 && is_visible desc) && is_known raw.access a.0 desc) (let x : Heading = record { access = raw.access; name = a.0; desc = desc; code = raw.code } in Some x) None) h a.2 in
     let made : Heading = record { access = raw.access; name = a.0; desc = b.0; code = raw.code } in
-    let c = chosen_some ((is_visible a.0 && is_visible b.0) && is_known raw.access a.0 b.0) (Some made) h b.2 in
+    let c = past_true ((is_visible a.0 && is_visible b.0) && is_known raw.access a.0 b.0) (Some made) h b.2 in
     let tests = both_true (is_visible a.0 && is_visible b.0) (is_known raw.access a.0 b.0) c.0 in
     let visible = both_true (is_visible a.0) (is_visible b.0) tests.0 in
     let whole : IsHeading pool raw made = record {
@@ -76,7 +75,7 @@ one_takes [] x e = absurd cc
 one_takes (b ∷ bytes) x e = ap (λ (y : ℕ × List ℕ). y.0 ∷ y.1) (some_is (b, bytes) x e)
 
 one_fits : (bytes : List ℕ) (x : ℕ × List ℕ) → IsBytes bytes → u1_at bytes ≡ Some x → IsBytes x.1
-one_fits bytes x fits e = IsBytes-tail x.0 x.1 (subst IsBytes (one_takes bytes x e) fits)
+one_fits bytes x fits e = IsBytes-rest x.0 x.1 (subst IsBytes (one_takes bytes x e) fits)
 
 constructor_index_takes : (bytes : List ℕ) (i : ℕ) → IsBytes bytes → constructor_index bytes ≡ Some i → (i < 2 ^ 16) × (bytes ≡ 0x2A ∷ 0xB7 ∷ u2 i ++ 0xB1 ∷ [])
 unfolding constructor_index
@@ -85,7 +84,7 @@ constructor_index_takes bytes i fits e =
     let b = bind_some (u1_at a.0.1) (λ call. u2_at call.1 >>= λ index. u1_at index.1 >>= λ last. cond (eqb a.0.0 0x2A && eqb call.0 0xB7 && eqb last.0 0xB1 && eqb (length last.1) 0) (Some index.0) None) i a.2 in
     let c = bind_some (u2_at b.0.1) (λ index. u1_at index.1 >>= λ last. cond (eqb a.0.0 0x2A && eqb b.0.0 0xB7 && eqb last.0 0xB1 && eqb (length last.1) 0) (Some index.0) None) i b.2 in
     let d = bind_some (u1_at c.0.1) (λ last. cond (eqb a.0.0 0x2A && eqb b.0.0 0xB7 && eqb last.0 0xB1 && eqb (length last.1) 0) (Some c.0.0) None) i c.2 in
-    let g = chosen_some (eqb a.0.0 0x2A && eqb b.0.0 0xB7 && eqb d.0.0 0xB1 && eqb (length d.0.1) 0) (Some c.0.0) i d.2 in
+    let g = past_true (eqb a.0.0 0x2A && eqb b.0.0 0xB7 && eqb d.0.0 0xB1 && eqb (length d.0.1) 0) (Some c.0.0) i d.2 in
     let t3 = both_true (eqb a.0.0 0x2A && eqb b.0.0 0xB7 && eqb d.0.0 0xB1) (eqb (length d.0.1) 0) g.0 in
     let t2 = both_true (eqb a.0.0 0x2A && eqb b.0.0 0xB7) (eqb d.0.0 0xB1) t3.0 in
     let t1 = both_true (eqb a.0.0 0x2A) (eqb b.0.0 0xB7) t2.0 in
@@ -107,7 +106,7 @@ constructor_takes : (pool : List Entry) (bytes : List ℕ) (list : List Placed) 
 unfolding constructor_code
 constructor_takes pool bytes list fits e =
     let a = bind_some (constructor_index bytes) (λ i. cond (is_object_init pool i) (Some []) None) list e in
-    let b = chosen_some (is_object_init pool a.0) (Some []) list a.2 in
+    let b = past_true (is_object_init pool a.0) (Some []) list a.2 in
     let t = constructor_index_takes bytes a.0 fits a.1 in
     let callee = is_named_takes pool a.0 (codes "java/lang/Object") (codes "<init>") (codes "()V") (named_at pool a.0) refl b.0 in
     (record { index = a.0; in_range = t.0; spelled = t.1; callee = callee }, sym (some_is [] list b.1))
@@ -128,7 +127,7 @@ IsBody pool class code list false = IsConstructorCode pool code.0 × (list ≡ [
 body_takes : (pool : List Entry) (class : StaticClass) (callee : ℕ → Option ℕ) → KnowsCallees pool class callee → (b : Bool) (code : List ℕ × ℕ) (list : List Placed) → IsBytes code.0
     → cond b (cond (eqb code.1 0) (placed_from callee 0 code.0) None) (constructor_code pool code.0) ≡ Some list → IsBody pool class code list b
 body_takes pool class callee knows true code list fits e =
-    let a = chosen_some (eqb code.1 0) (placed_from callee 0 code.0) list e in
+    let a = past_true (eqb code.1 0) (placed_from callee 0 code.0) list e in
     (eqb-true code.1 0 a.0, instructions_take pool class callee knows 0 code.0 list fits a.1)
 body_takes pool class callee knows false code list fits e = constructor_takes pool code.0 list fits e
 

@@ -18,12 +18,12 @@ use Rattle.jv_class.specs.Classes.{IsBytes, class_at}
 use Rattle.jv_class.specs.ClassesHeads.{is_visible, Heading, heading_of, headings_of, heading_at, headings_at, each, callee_of, method_at}
 use Rattle.jv_class.specs.ClassesPlaces.{AreApart}
 use Rattle.jv_class.specs.ClassesOutline.{is_text, is_class_named, is_framed}
-use Rattle.jv_class.proofs.ClassesSteps.{bind_some, some_is}
 use Rattle.jv_class.proofs.ClassesInstructions.{KnowsCallees, Decides-leb}
 use Rattle.jv_class.proofs.ClassesPool.{class_takes, class_again, bytes_eq_itself}
 use Rattle.jv_class.proofs.ClassesKinds.{both_true, two_true, three_true, Decides-visible}
 use Rattle.jv_class.proofs.ClassesMethods.{heading_takes, method_takes, heading_for, heading_for_again, method_again, method_same}
 use Rattle.jv_class.proofs.ClassesCallees.{SameHead, apart_from_distinct, distinct_from_apart, callees_known}
+use Rattle.jv_class.proofs.LayoutFields.{bind_some, some_is}
 
 -- ---- what stands around the methods
 

@@ -23,7 +23,7 @@ use Rattle.jv_class.specs.Classes.{named_at}
 use Rattle.jv_class.specs.ClassesBodies.{flat, callee_in}
 use Rattle.jv_class.specs.ClassesHeads.{Heading, heading_of, headings_of, place_of, static_at, static_of, callee_of}
 use Rattle.jv_class.specs.ClassesPlaces.{AreApart, HasPlaces, key_cmp}
-use Rattle.jv_class.proofs.ClassesSteps.{some_is}
+use Rattle.jv_class.proofs.LayoutFields.{some_is}
 
 -- a method has this name and descriptor
 abbrev pub is_same : Heading → List ℕ → List ℕ → Bool

@@ -10,7 +10,7 @@ use Rattle.jv_class.specs.Outlines.{IsUtf8At, IsClassAt, IsMethodrefAt}
 use Rattle.jv_class.specs.Reading.{◌>>=◌}
 use Rattle.jv_class.specs.Classes.{text_of, class_name_of, method_of, pair_of, text_at, class_at, pair_at, named_at, Named}
 use Rattle.jv_class.specs.ClassesBodies.{is_named}
-use Rattle.jv_class.proofs.ClassesSteps.{bind_some, some_is}
+use Rattle.jv_class.proofs.LayoutFields.{bind_some, some_is}
 
 text_entry : (e : Entry) (t : List ℕ) → text_of e ≡ Some t → e ≡ Utf8 t
 text_entry (Utf8 text) t e = ap Utf8 (some_is text t e)

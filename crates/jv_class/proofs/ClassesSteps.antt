@@ -3,25 +3,7 @@ use Rattle.std.proofs.Common.{◌≡◌, ◌⊎◌, inl, inr, Bool, true, false,
 use Rattle.std.specs.Option.{is_some}
 use Rattle.jv_class.specs.declared.read_error.ReadError.{ReadError}
 use Rattle.jv_class.specs.declared.read_error.ReadError.TheVariants as errors
-use Rattle.jv_class.specs.Reading.{◌>>=◌, Fails}
-
--- the value of a step that gave one
-pub bind_some : {A B : Type 0} (o : Option A) (f : A → Option B) (y : B) → (o >>= f) ≡ Some y → (x : A) × (o ≡ Some x) × (f x ≡ Some y)
-bind_some None f y e = absurd cc
-bind_some (Some x) f y e = (x, refl, e)
-
--- a test that went on
-pub guard_some : {A : Type 0} (b : Bool) (o : Option A) (y : A) → cond b None o ≡ Some y → (b ≡ false) × (o ≡ Some y)
-guard_some true o y e = absurd cc
-guard_some false o y e = (refl, e)
-
--- a test that gave a value
-pub chosen_some : {A : Type 0} (b : Bool) (o : Option A) (y : A) → cond b o None ≡ Some y → (b ≡ true) × (o ≡ Some y)
-chosen_some true o y e = (refl, e)
-chosen_some false o y e = absurd cc
-
-pub some_is : {A : Type 0} (x y : A) → Some x ≡ Some y → x ≡ y
-some_is x y e = cc
+use Rattle.jv_class.specs.Reading.{Fails}
 
 -- which way a test went
 pub chosen : {A : Type 0} (b : Bool) (x y z : A) → cond b x y ≡ z → ((b ≡ true) × (x ≡ z)) ⊎ ((b ≡ false) × (y ≡ z))

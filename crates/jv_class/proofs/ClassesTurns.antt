@@ -8,9 +8,10 @@ use Rattle.jv_class.specs.declared.static_class.Instruction.TheVariants.{Plain, 
 use Rattle.jv_class.specs.declared.static_class.Placed.{Placed}
 use Rattle.jv_class.specs.Reading.{◌>>=◌, Fails, u2_at}
 use Rattle.jv_class.specs.ClassesBodies.{is_plain, is_last, step_at, before, placed_from}
-use Rattle.jv_class.proofs.ClassesSteps.{bind_some, chosen_some, chosen, some_is}
+use Rattle.jv_class.proofs.ClassesSteps.{chosen}
 use Rattle.jv_class.proofs.ClassesFields.{u2_at_front, u2_shorter}
 use Rattle.jv_class.proofs.ClassesLoops.{with_front}
+use Rattle.jv_class.proofs.LayoutFields.{bind_some, past_true, some_is}
 
 -- a choice among three before a further step
 by_three : {S R : Type 0} (p q : Bool) (first second : Option R) (plain call : Option S) (f : S → Option R) → first ≡ (plain >>= f) → second ≡ (call >>= f)
@@ -75,7 +76,7 @@ step_shorter callee (op ∷ rest) x e =
     elim (chosen (is_plain op) (Some (Plain, rest)) (cond (eqb op 184) (u2_at rest >>= λ i. callee i.0 >>= λ place. Some (Call place, i.1)) None) (Some x) e) [
       | inl h ↦ let is = some_is (Plain, rest) x h.1 in subst (λ (y : Instruction × List ℕ). length y.1 < suc (length rest)) is (omega arith)
       | inr h ↦
-          let a = chosen_some (eqb op 184) (u2_at rest >>= λ i. callee i.0 >>= λ place. Some (Call place, i.1)) x h.1 in
+          let a = past_true (eqb op 184) (u2_at rest >>= λ i. callee i.0 >>= λ place. Some (Call place, i.1)) x h.1 in
           let b = bind_some (u2_at rest) (λ i. callee i.0 >>= λ place. Some (Call place, i.1)) x a.1 in
           let d = bind_some (callee b.0.0) (λ place. Some (Call place, b.0.1)) x b.2 in
           let is = some_is (Call d.0, b.0.1) x d.2 in

@@ -1,12 +1,13 @@
 -- What the indices of a constant pool name, and the content of an attribute Code, by functions on lists
 -- that give a value or nothing. The reader is proved to give what these functions give.
-use Rattle.std.specs.Prelude.{ℕ, zero, suc, ◌*◌, ◌<◌, List, length, slice_index, ◌||◌, ◌==◌, nat_lt, Option, Some, None, if◌then◌else◌}
+use Rattle.std.specs.Prelude.{ℕ, ◌*◌, ◌<◌, List, length, slice_index, ◌||◌, ◌==◌, nat_lt, Option, Some, None, if◌then◌else◌}
 use Rattle.std.specs.List.{slice_get}
 use Rattle.std.specs.Borrow.{Bor}
 use Rattle.jv_class.specs.declared.outline.Entry.{Entry}
 use Rattle.jv_class.specs.declared.outline.Entry.TheVariants.{Utf8, Class, Methodref, NameAndType, Unused}
 use Rattle.jv_class.specs.declared.class_of_pool.Target.{Target}
 use Rattle.jv_class.specs.Reading.{◌>>=◌, u2_at, u4_at, bytes_at}
+use Rattle.jv_class.specs.LayoutReading.{passed_at}
 
 -- ---- the pool
 
@@ -82,25 +83,6 @@ IsBytes bytes = (i : ℕ) → slice_index bytes i < 256
 
 -- ---- the content of an attribute Code (JVMS 4.7.3)
 
--- what follows an attribute
-unfoldable pub after_attribute : List ℕ → Option (List ℕ)
-after_attribute bytes = do
-  name ← u2_at bytes
-  size ← u4_at name.1
-  content ← bytes_at size.1 size.0
-  Some (content.1)
-
--- what follows as many attributes
-unfoldable pub after_attributes : ℕ → List ℕ → Option (List ℕ)
-after_attributes zero bytes = Some bytes
-after_attributes (suc n) bytes = after_attribute bytes >>= after_attributes n
-
--- what follows a count and as many attributes
-unfoldable pub after_counted : List ℕ → Option (List ℕ)
-after_counted bytes = do
-  count ← u2_at bytes
-  after_attributes count.0 count.1
-
 -- a code of 1 to 65535 bytes, and what follows it
 unfoldable pub code_bytes_at : List ℕ → Option (List ℕ × List ℕ)
 code_bytes_at bytes = do
@@ -121,5 +103,5 @@ code_of content = do
   locals ← u2_at stack.1
   code ← code_bytes_at locals.1
   handlers ← handlers_at code.1
-  rest ← after_counted handlers.1
+  rest ← passed_at handlers.1
   if length rest == 0 then Some (code.0, handlers.0) else None

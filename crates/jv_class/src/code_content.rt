@@ -1,40 +1,10 @@
 ghost use Rattle.std.specs.Prelude.{◌≡◌};
 ghost use Rattle.jv_class.specs.Reading.{Gives};
-ghost use Rattle.jv_class.specs.Classes.{after_attribute, after_attributes, after_counted, code_bytes_at, handlers_at, code_of, IsBytes};
+ghost use Rattle.jv_class.specs.Classes.{code_bytes_at, handlers_at, code_of, IsBytes};
 
+use crate::attributes::pass_counted;
 use crate::number::{read_bytes, read_u2, read_u4};
 use crate::read_error::ReadError;
-
-/// What follows an attribute (JVMS 4.7).
-#[tactic(auto, unfolding(crate::specs::Classes::after_attribute))]
-fn pass_attribute(bytes: &[u8]) -> Result<&[u8], ReadError>
-    ensures { Gives (λ x. x.now) result (after_attribute bytes.now) }
-{
-    let (_name, rest) = read_u2(bytes)?;
-    let (size, rest) = read_u4(rest)?;
-    let (_content, rest) = read_bytes(rest, size as usize)?;
-    Ok(rest)
-}
-
-/// What follows as many attributes.
-fn pass_attributes(count: u16, bytes: &[u8]) -> Result<&[u8], ReadError>
-    ensures { Gives (λ x. x.now) result (after_attributes count bytes.now) }
-{
-    let mut rest = bytes;
-    for _ in 0..count {
-        rest = pass_attribute(rest)?;
-    }
-    Ok(rest)
-}
-
-/// What follows a count and as many attributes.
-#[tactic(auto, unfolding(crate::specs::Classes::after_counted))]
-fn pass_counted(bytes: &[u8]) -> Result<&[u8], ReadError>
-    ensures { Gives (λ x. x.now) result (after_counted bytes.now) }
-{
-    let (count, rest) = read_u2(bytes)?;
-    pass_attributes(count, rest)
-}
 
 /// A code of 1 to 65535 bytes, and what follows it.
 #[tactic(auto, unfolding(crate::specs::Classes::code_bytes_at))]
