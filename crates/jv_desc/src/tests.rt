@@ -1,6 +1,10 @@
 use super::*;
-use jv_types::{Desc, Prim, RefType};
+use jv_types::{
+    Access, Copied, Desc, FieldShape, MethodShape, Name, Prim, RefType, Seq, Shape, is_class_name,
+    is_method_name, is_part,
+};
 use std::alloc::{AllocError, Global};
+use std::cmp::Ordering;
 use std::test::*;
 
 fn is_field(alloc: Global, text: &[u8]) -> bool {
@@ -111,6 +115,90 @@ fn shows_fields(rt: HostRuntime) -> Result<(), Fail> {
     let shown = show_field(rt.alloc(), &field)?;
     assert_eq!(rt; shown.as_slice(), text);
     Ok(())
+}
+
+fn field_of(alloc: Global, text: &[u8]) -> Result<Desc, Fail> {
+    Ok(field_desc(alloc, text).ok().ok_or("a field")?)
+}
+
+// Classes come before arrays of primitives, and those before arrays of reference types.
+#[test]
+fn orders_types(rt: HostRuntime) -> Result<(), Fail> {
+    let types = [
+        field_of(rt.alloc(), b"Z")?,
+        field_of(rt.alloc(), b"J")?,
+        field_of(rt.alloc(), b"La;")?,
+        field_of(rt.alloc(), b"Lb;")?,
+        field_of(rt.alloc(), b"[I")?,
+        field_of(rt.alloc(), b"[La;")?,
+        field_of(rt.alloc(), b"[[I")?,
+        field_of(rt.alloc(), b"[[La;")?,
+    ];
+    for (i, a) in types.iter().enumerate() {
+        for (j, b) in types.iter().enumerate() {
+            assert_eq!(rt; a.cmp(b), i.cmp(&j), "at {i} and {j}");
+            assert_eq!(rt; a.is(b), i == j, "at {i} and {j}");
+        }
+        let copy = a.copy(rt.alloc())?;
+        assert_eq!(rt; copy.cmp(a), Ordering::Equal);
+    }
+    Ok(())
+}
+
+#[test]
+fn copies_shapes(rt: HostRuntime) -> Result<(), Fail> {
+    let name = Name::from_slice(rt.alloc(), b"app/A")?;
+    let text = b"(IJ[Ljava/lang/Object;)[J".as_slice();
+    let desc = method_desc(rt.alloc(), text).ok().ok_or("a method")?;
+    let mut fields = Seq::new(rt.alloc());
+    fields.push(FieldShape {
+        name: name.copy()?,
+        desc: field_of(rt.alloc(), b"[[La;")?,
+        flags: Access::PUBLIC,
+    })?;
+    let mut methods = Seq::new(rt.alloc());
+    methods.push(MethodShape {
+        name: name.copy()?,
+        desc,
+        flags: Access::STATIC,
+        code: true,
+    })?;
+    let shape = Shape {
+        parent: Some(name.copy()?),
+        name,
+        flags: Access::SUPER,
+        interfaces: Seq::new(rt.alloc()),
+        fields,
+        methods,
+        application: true,
+    };
+    let copy = shape.copy()?;
+    assert!(rt; copy == shape);
+    assert_eq!(rt; copy.methods.len(), 1);
+    Ok(())
+}
+
+#[test]
+fn tells_names(rt: HostRuntime) {
+    for (name, class, part, method) in [
+        (b"a".as_slice(), true, true, true),
+        (b"a/b".as_slice(), true, false, false),
+        (b"a//b".as_slice(), false, false, false),
+        (b"/a".as_slice(), false, false, false),
+        (b"a/".as_slice(), false, false, false),
+        (b"".as_slice(), false, false, false),
+        (b"a.b".as_slice(), false, false, false),
+        (b"a;".as_slice(), false, false, false),
+        (b"[a".as_slice(), false, false, false),
+        (b"<init>".as_slice(), true, true, true),
+        (b"<clinit>".as_slice(), true, true, true),
+        (b"<main>".as_slice(), true, true, false),
+        (b"a>b".as_slice(), true, true, false),
+    ] {
+        assert_eq!(rt; is_class_name(name), class);
+        assert_eq!(rt; is_part(name), part);
+        assert_eq!(rt; is_method_name(name), method);
+    }
 }
 
 #[test]
