@@ -35,7 +35,9 @@ static METHODS: [&[u8]; 4] = [
 fn names(alloc: Global, writes: bool) -> Result<u64> {
     let mut bytes = 0u64;
     for name in NAMES.iter() {
-        let units = units_of(alloc, name).ok().context("a name that is no text")?;
+        let units = units_of(alloc, name)
+            .ok()
+            .context("a name that is no text")?;
         bytes = bytes.saturating_add(name.len() as u64);
         if writes {
             let text = text_of(alloc, &units)?;
@@ -57,7 +59,9 @@ fn descriptors(alloc: Global, shows: bool) -> Result<u64> {
         }
     }
     for text in METHODS.iter() {
-        let desc = method_desc(alloc, text).ok().context("no method descriptor")?;
+        let desc = method_desc(alloc, text)
+            .ok()
+            .context("no method descriptor")?;
         bytes = bytes.saturating_add(text.len() as u64);
         if shows {
             let shown = show_method(alloc, &desc)?;
