@@ -1,7 +1,7 @@
 ghost use Rattle.std.specs.Prelude.{◌≡◌, ◌⊎◌, ◌∷◌, [], ◌++◌, Some, IfOk, IfSome, take, option_map};
 ghost use Rattle.jv_host.specs.declared.host.HostCall.{HostCall};
 ghost use Rattle.jv_host.specs.declared.host.HostCall.TheVariants.{ReadFile};
-ghost use Rattle.jv_host.specs.Counts.{Rises};
+ghost use Rattle.jv_host.specs.Counts.{Rises, one_more};
 ghost use Rattle.jv_host.specs.Files.{bytes_of};
 ghost use Rattle.jv_host.specs.HostAnswer.{OnHostFailed};
 ghost use Rattle.av_cli.specs.Answers.{file_name, file_most};
@@ -47,6 +47,7 @@ fn read_class_file<H: Host>(
     ensures files_kept { H.files host.new ≡ H.files host.old }
     ensures written_kept { H.written host.new ≡ H.written host.old }
     ensures write_faults_kept { H.write_faults host.new ≡ H.write_faults host.old }
+    ensures asked_at_most_once { (H.asked host.new ≡ H.asked host.old) ⊎ (H.asked host.new ≡ option_map one_more (H.asked host.old)) }
     ensures only_read { (H.calls host.new ≡ H.calls host.old)
         ⊎ (H.calls host.new ≡ option_map (λ calls. calls ++ ReadFile root.now (file_name name.now) ∷ []) (H.calls host.old)) }
 {
@@ -93,6 +94,7 @@ pub fn print_class<H: Host, O: Sink>(
     ensures files_kept { H.files host.new ≡ H.files host.old }
     ensures written_kept { H.written host.new ≡ H.written host.old }
     ensures write_faults_kept { H.write_faults host.new ≡ H.write_faults host.old }
+    ensures asked_at_most_once { (H.asked host.new ≡ H.asked host.old) ⊎ (H.asked host.new ≡ option_map one_more (H.asked host.old)) }
     ensures only_read { (H.calls host.new ≡ H.calls host.old)
         ⊎ (H.calls host.new ≡ option_map (λ calls. calls ++ ReadFile root.now (file_name name.now) ∷ []) (H.calls host.old)) }
 {

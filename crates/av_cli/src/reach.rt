@@ -134,7 +134,8 @@ impl Search {
 /// wanting.
 pub fn reached_methods(alloc: Global, class: &StaticClass) -> Result<Vec<bool>, AllocError>
     requires { AreCallsInRange class.now }
-    ensures { IfOk result (λ marks. IsLeast class.now (marked marks.items)) }
+    ensures least { IfOk result (λ marks. IsLeast class.now (marked marks.items)) }
+    ensures count { IfOk result (λ marks. length marks.items ≡ length class.now.methods) }
 {
     let mut search = Search::new(alloc, class.methods.len())?;
     search.mark_main(class)?;

@@ -1,4 +1,5 @@
-ghost use Rattle.std.specs.Prelude.{◌≡◌, ◌⊎◌, map};
+ghost use Rattle.std.specs.Prelude.{◌≡◌, ◌⊎◌, map, option_map};
+ghost use Rattle.jv_host.specs.Counts.{one_more};
 ghost use Rattle.av_cli.specs.Ending.{Ends, CallsOnlyRead};
 
 use crate::command::print_class;
@@ -32,6 +33,7 @@ pub fn run<H: Host, O: Sink, E: Sink>(
     ensures silent_at_done { result ≡ Status.Done → err.new ≡ err.old }
 
     // The host is left alone, but for the one read.
+    ensures asked_at_most_once { (H.asked host.new ≡ H.asked host.old) ⊎ (H.asked host.new ≡ option_map one_more (H.asked host.old)) }
     ensures only_read { CallsOnlyRead (map (λ w. w.now) words.now) (H.calls host.old) (H.calls host.new) }
     ensures files_kept { H.files host.new ≡ H.files host.old }
     ensures written_kept { H.written host.new ≡ H.written host.old }

@@ -5,3 +5,4 @@ pub mod HostAnswer
 pub mod MemHostState
 pub mod MemSinkState
 pub mod SinkAnswer
+pub mod StdSinkState

@@ -194,6 +194,8 @@ impl<R: Files + AllocGlobal + Clone + Drop> Host for DirHost<R> {
 
     ghost calls = { λ _. None };
 
+    ghost asked = { λ _. None };
+
     ghost failed = { λ _. None };
 
     ghost read_faults = { λ h. h.read_faults };

@@ -1,7 +1,7 @@
 ghost use Rattle.std.specs.Prelude.{◌≡◌, ◌≤◌, [], ◌∷◌, ◌++◌, List, ℕ, Option, Some, vec_len, take, option_map, IfOk, IfSome, OnOk, OnErr};
 ghost use Rattle.jv_host.specs.declared.host.HostFile.{HostFile};
 ghost use Rattle.jv_host.specs.declared.host.HostCall.{HostCall};
-ghost use Rattle.jv_host.specs.Counts.{Rises};
+ghost use Rattle.jv_host.specs.Counts.{Rises, one_more};
 ghost use Rattle.jv_host.specs.Files.{HasNoTwins, Lists, bytes_of};
 ghost use Rattle.jv_host.specs.HostAnswer.{OnHostFailed, UnlessHostFailed, calls_after};
 
@@ -73,6 +73,9 @@ pub trait Host {
     /// wanting isn't among them.
     ghost calls: { Self → Option (List HostCall) };
 
+    /// How many calls there were, whatever they answered, where it is told.
+    ghost asked: { Self → Option ℕ };
+
     /// The last call that answered `Failed`, or none, where it is told.
     ghost failed: { Self → Option (Option HostCall) };
 
@@ -91,6 +94,7 @@ pub trait Host {
 
         ensures files_kept { files self.new ≡ files self.old }
         ensures written_kept { written self.new ≡ written self.old }
+        ensures asked_once { asked self.new ≡ option_map one_more (asked self.old) }
         ensures calls_grow { calls self.new ≡ calls_after result (HostCall.ListRoot root.now) (calls self.old) }
 
         // Only a fault is counted, and it is then the last one.
@@ -116,6 +120,7 @@ pub trait Host {
 
         ensures files_kept { files self.new ≡ files self.old }
         ensures written_kept { written self.new ≡ written self.old }
+        ensures asked_once { asked self.new ≡ option_map one_more (asked self.old) }
         ensures calls_grow { calls self.new ≡ calls_after result (HostCall.ReadFile root.now name.now) (calls self.old) }
 
         ensures fault_counted { OnHostFailed result (Rises (read_faults self.old) (read_faults self.new)) }
@@ -138,6 +143,7 @@ pub trait Host {
         ensures written_kept { OnErr result (written self.new ≡ written self.old) }
 
         ensures files_kept { files self.new ≡ files self.old }
+        ensures asked_once { asked self.new ≡ option_map one_more (asked self.old) }
         ensures calls_grow { calls self.new ≡ calls_after result (HostCall.WriteFile root.now name.now) (calls self.old) }
 
         ensures fault_counted { OnHostFailed result (Rises (write_faults self.old) (write_faults self.new)) }

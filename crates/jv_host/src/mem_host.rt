@@ -228,6 +228,8 @@ impl Host for MemHost {
 
     ghost calls = { λ h. Some h.answered };
 
+    ghost asked = { λ h. Some h.calls };
+
     ghost failed = { λ h. Some h.failed };
 
     ghost read_faults = { λ h. h.read_faults };
@@ -242,6 +244,7 @@ impl Host for MemHost {
 
         ensures files_kept { Some self.new.files ≡ Some self.old.files }
         ensures written_kept { Some self.new.written ≡ Some self.old.written }
+        ensures asked_once { Some self.new.calls ≡ Some (one_more self.old.calls) }
         ensures calls_grow { Some self.new.answered ≡ calls_after result (HostCall.ListRoot root.now) (Some self.old.answered) }
 
         ensures fault_counted { OnHostFailed result (Rises self.old.read_faults self.new.read_faults) }
@@ -292,6 +295,7 @@ impl Host for MemHost {
 
         ensures files_kept { Some self.new.files ≡ Some self.old.files }
         ensures written_kept { Some self.new.written ≡ Some self.old.written }
+        ensures asked_once { Some self.new.calls ≡ Some (one_more self.old.calls) }
         ensures calls_grow { Some self.new.answered ≡ calls_after result (HostCall.ReadFile root.now name.now) (Some self.old.answered) }
 
         ensures fault_counted { OnHostFailed result (Rises self.old.read_faults self.new.read_faults) }
@@ -340,6 +344,7 @@ impl Host for MemHost {
         ensures written_kept { OnErr result (Some self.new.written ≡ Some self.old.written) }
 
         ensures files_kept { Some self.new.files ≡ Some self.old.files }
+        ensures asked_once { Some self.new.calls ≡ Some (one_more self.old.calls) }
         ensures calls_grow { Some self.new.answered ≡ calls_after result (HostCall.WriteFile root.now name.now) (Some self.old.answered) }
 
         ensures fault_counted { OnHostFailed result (Rises self.old.write_faults self.new.write_faults) }

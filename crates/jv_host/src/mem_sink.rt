@@ -78,6 +78,8 @@ impl Sink for MemSink {
         // As many bytes as are asked for or as a step has, and a fault exactly where one is planned.
         ensures count { IfOk result (λ count. count ≡ min (length bytes.now) self.old.step) }
         ensures planned { IsErrOf result SinkFault.Failed ↔ Contains self.old.fail (one_more self.old.calls) }
+        ensures fault_counted_once { OnSinkFailed result (self.new.faults ≡ one_more self.old.faults) }
+        ensures lack_counted_once { OnSinkLacking result (self.new.lacks ≡ one_more self.old.lacks) }
         ensures calls_counted { self.new.calls ≡ one_more self.old.calls }
         ensures step_kept { self.new.step ≡ self.old.step }
         ensures plan_kept { self.new.fail ≡ self.old.fail }

@@ -11,4 +11,4 @@ returns c =
     let set = marked c.in_ok-marks.marks.items in
     let are = rw c.as_slice.ensures.value at c.call_lines.ensures in
     IfOk-weaker c.call_lines.result (λ lines. AreLines class set lines.keys) (λ lines. AreClassLines class lines.keys)
-    (λ lines. AreClassLines-least class set lines.keys c.requires c.in_ok-marks.ensures) are
+    (λ lines. AreClassLines-least class set lines.keys c.requires c.in_ok-marks.ensures.least) are

@@ -23,8 +23,8 @@ pub loop-place-smaller : goal.loop-place-smaller
 loop-place-smaller c =
     omega (arith, c.in_ok-follow.ensures.work, ap length c.in-Some.ensures.items, length_push c.pop.new.self.items c.in-Some.place)
 
-pub returns : goal.returns
-returns c =
+pub returns-clause-least : goal.returns-clause-least
+returns-clause-least c =
     let pending : List ℕ = c.loop-place.search.pending.items in
     let none : pending ≡ [] = nil_from_length pending (omega (arith, c.in_default.ensures.cases.0, c.loop-place.search.pending.ok.0)) in
     IsLeast-search c.args.class.now c.loop-place.search.marks.items (rw none at c.loop-place.invariant)
