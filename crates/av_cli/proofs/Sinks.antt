@@ -8,14 +8,14 @@ use Rattle.jv_host.specs.Counts.{Rises}
 use Rattle.jv_host.specs.SinkAnswer.{OnSinkFailed, OnSinkLacking}
 use Rattle.av_cli.specs.Lines.{text_of_lines}
 use Rattle.av_cli.specs.Ending.{Says}
-use Rattle.av_cli.specs.Handing.{SinkState, Takes, NeverFalls, Handed}
+use Rattle.av_cli.specs.Handing.{SinkState, Takes, NeverFalls, AreCountsKept, Handed}
 
 -- a front of the bytes was taken, and this is the rest
 pub record IsUnderway (old new : SinkState) (bytes rest : List ℕ) : Type 0 where
   pub front : List ℕ
   pub parts : bytes ≡ front ++ rest
   pub takes : Takes old new front
-  pub never_falls : NeverFalls old new
+  pub kept : AreCountsKept old new
 
 option_map-nil : (o : Option (List ℕ)) → o ≡ option_map (λ before. before ++ []) o
 option_map-nil None = refl
@@ -34,6 +34,16 @@ Takes-then a b c x y p q = q ∙ ap (option_map (λ before. before ++ y)) p ∙ 
 pub NeverFalls-then : (a b c : SinkState) → NeverFalls a b → NeverFalls b c → NeverFalls a c
 NeverFalls-then a b c p q = record { faults = omega (arith, p.faults, q.faults); lacks = omega (arith, p.lacks, q.lacks) }
 
+counts_kept : (s : SinkState) → AreCountsKept s s
+counts_kept s = record { faults = refl; lacks = refl }
+
+AreCountsKept-then : (a b c : SinkState) → AreCountsKept a b → AreCountsKept b c → AreCountsKept a c
+AreCountsKept-then a b c p q = record { faults = q.faults ∙ p.faults; lacks = q.lacks ∙ p.lacks }
+
+-- counts that are kept don't fall
+pub NeverFalls-from_kept : (a b : SinkState) → AreCountsKept a b → NeverFalls a b
+NeverFalls-from_kept a b k = record { faults = omega (arith, k.faults); lacks = omega (arith, k.lacks) }
+
 pub Rises-after : (a b c : ℕ) → a ≤ b → Rises b c → Rises a c
 Rises-after a b c le (inl lt) = inl (omega arith)
 Rises-after a b c le (inr e) = inr e
@@ -41,35 +51,36 @@ Rises-after a b c le (inr e) = inr e
 -- all of a text was taken
 pub record IsTaken (old new : SinkState) (text : List ℕ) : Type 0 where
   pub takes : Takes old new text
-  pub never_falls : NeverFalls old new
+  pub kept : AreCountsKept old new
 
 pub taken_nothing : (s : SinkState) → IsTaken s s []
-taken_nothing s = record { takes = Takes-nil s s refl; never_falls = record { faults = omega arith; lacks = omega arith } }
+taken_nothing s = record { takes = Takes-nil s s refl; kept = counts_kept s }
 
 pub from_handed : (u : Unit {0}) (a b : SinkState) (x : List ℕ) → Handed (Ok u) a b x → IsTaken a b x
-from_handed u a b x h = record { takes = h.whole; never_falls = h.never_falls }
+from_handed u a b x h = record { takes = h.whole; kept = h.untroubled }
 
 pub is_handed : (a b : SinkState) (x : List ℕ) → IsTaken a b x → Handed (Ok tt) a b x
-is_handed a b x t = record { whole = t.takes; front = tt; failed = tt; lacking = tt; never_falls = t.never_falls }
+is_handed a b x t = record { whole = t.takes; untroubled = t.kept; front = tt; failed = tt; lacking = tt; never_falls = NeverFalls-from_kept a b t.kept }
 
 pub underway : (s : SinkState) (bytes : List ℕ) → IsUnderway s s bytes bytes
-underway s bytes = record { front = []; parts = refl; takes = Takes-nil s s refl; never_falls = record { faults = omega arith; lacks = omega arith } }
+underway s bytes = record { front = []; parts = refl; takes = Takes-nil s s refl; kept = counts_kept s }
 
-pub goes_on : (a b c : SinkState) (bytes rest : List ℕ) (count : ℕ) → IsUnderway a b bytes rest → Takes b c (take count rest) → NeverFalls b c → IsUnderway a c bytes (drop count rest)
+pub goes_on : (a b c : SinkState) (bytes rest : List ℕ) (count : ℕ) → IsUnderway a b bytes rest → Takes b c (take count rest) → AreCountsKept b c → IsUnderway a c bytes (drop count rest)
 goes_on a b c bytes rest count u t n = record {
   front = u.front ++ take count rest;
   parts = u.parts ∙ ap (λ (r : List ℕ). u.front ++ r) (sym (take-append-drop count rest)) ∙ sym (append_assoc u.front (take count rest) (drop count rest));
   takes = Takes-then a b c u.front (take count rest) u.takes t;
-  never_falls = NeverFalls-then a b c u.never_falls n;
+  kept = AreCountsKept-then a b c u.kept n;
 }
 
 pub is_whole : (a b : SinkState) (bytes : List ℕ) → IsUnderway a b bytes [] → Handed (Ok tt) a b bytes
 is_whole a b bytes u = record {
   whole = subst (Takes a b) (sym (append-nil u.front) ∙ sym u.parts) u.takes;
+  untroubled = u.kept;
   front = tt;
   failed = tt;
   lacking = tt;
-  never_falls = u.never_falls;
+  never_falls = NeverFalls-from_kept a b u.kept;
 }
 
 -- what a refused call leaves
@@ -90,33 +101,43 @@ lacks Memory a b c n r = Rises-after _ _ _ n.lacks r
 pub is_cut_off : (e : SinkFault) (a b c : SinkState) (bytes rest : List ℕ) → IsUnderway a b bytes rest → IsRefused e b c → Handed (Err e) a c bytes
 is_cut_off e a b c bytes rest u r = record {
   whole = tt;
+  untroubled = tt;
   front = (u.front, rest, u.parts, r.kept ∙ u.takes);
-  failed = raises e a b c u.never_falls r.failed;
-  lacking = lacks e a b c u.never_falls r.lacking;
-  never_falls = NeverFalls-then a b c u.never_falls r.never_falls;
+  failed = raises e a b c (NeverFalls-from_kept a b u.kept) r.failed;
+  lacking = lacks e a b c (NeverFalls-from_kept a b u.kept) r.lacking;
+  never_falls = NeverFalls-then a b c (NeverFalls-from_kept a b u.kept) r.never_falls;
 }
 
 pub IsTaken-then : (a b c : SinkState) (x y : List ℕ) → IsTaken a b x → IsTaken b c y → IsTaken a c (x ++ y)
-IsTaken-then a b c x y p q = record { takes = Takes-then a b c x y p.takes q.takes; never_falls = NeverFalls-then a b c p.never_falls q.never_falls }
+IsTaken-then a b c x y p q = record { takes = Takes-then a b c x y p.takes q.takes; kept = AreCountsKept-then a b c p.kept q.kept }
 
 -- a text after one that was handed over whole
 pub Handed-then : (r : Result (Unit {0}) SinkFault) (a b c : SinkState) (x y : List ℕ) → IsTaken a b x → Handed r b c y → Handed r a c (x ++ y)
-Handed-then r a b c x y p h = after r a b c x y p.takes p.never_falls h
+Handed-then r a b c x y p h = after r a b c x y p.takes p.kept h
   where
-    after : (r : Result (Unit {0}) SinkFault) (a b c : SinkState) (x y : List ℕ) → Takes a b x → NeverFalls a b → Handed r b c y → Handed r a c (x ++ y)
-    after (Ok u) a b c x y t n h = record { whole = Takes-then a b c x y t h.whole; front = tt; failed = tt; lacking = tt; never_falls = NeverFalls-then a b c n h.never_falls }
-    after (Err e) a b c x y t n h = record {
+    after : (r : Result (Unit {0}) SinkFault) (a b c : SinkState) (x y : List ℕ) → Takes a b x → AreCountsKept a b → Handed r b c y → Handed r a c (x ++ y)
+    after (Ok u) a b c x y t k h = record {
+      whole = Takes-then a b c x y t h.whole;
+      untroubled = AreCountsKept-then a b c k h.untroubled;
+      front = tt;
+      failed = tt;
+      lacking = tt;
+      never_falls = NeverFalls-then a b c (NeverFalls-from_kept a b k) h.never_falls;
+    }
+    after (Err e) a b c x y t k h = record {
       whole = tt;
+      untroubled = tt;
       front = (x ++ h.front.0, h.front.1, ap (λ (r : List ℕ). x ++ r) h.front.2 ∙ sym (append_assoc x h.front.0 h.front.1), Takes-then a b c x h.front.0 t h.front.3);
-      failed = raises e a b c n h.failed;
-      lacking = lacks e a b c n h.lacking;
-      never_falls = NeverFalls-then a b c n h.never_falls;
+      failed = raises e a b c (NeverFalls-from_kept a b k) h.failed;
+      lacking = lacks e a b c (NeverFalls-from_kept a b k) h.lacking;
+      never_falls = NeverFalls-then a b c (NeverFalls-from_kept a b k) h.never_falls;
     }
 
 -- where a text was cut off, so is one that begins with it
 pub Handed-cut : (e : SinkFault) (a b : SinkState) (x y : List ℕ) → Handed (Err e) a b x → Handed (Err e) a b (x ++ y)
 Handed-cut e a b x y h = record {
   whole = tt;
+  untroubled = tt;
   front = (h.front.0, h.front.1 ++ y, ap (λ (r : List ℕ). r ++ y) h.front.2 ∙ append_assoc h.front.0 h.front.1 y, h.front.3);
   failed = h.failed;
   lacking = h.lacking;
@@ -167,6 +188,6 @@ line_cut e a b c text line left rest is p h =
 
 -- what a sink was told, whether or not it took all of it
 pub says : (r : Result (Unit {0}) SinkFault) (a b : SinkState) (line : List ℕ) → Handed r a b line → Says a b line
-says (Ok u) a b line h = inl h.whole
+says (Ok u) a b line h = inl (h.whole, h.untroubled)
 says (Err Failed) a b line h = inr (h.front, inl h.failed)
 says (Err Memory) a b line h = inr (h.front, inr h.lacking)

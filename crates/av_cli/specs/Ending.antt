@@ -13,7 +13,7 @@ use Rattle.av_cli.specs.declared.status.Answer.{Answer}
 use Rattle.av_cli.specs.declared.status.Answer.TheVariants.{Printed, Misused, Unreadable, NoFile, OutsideForm, NoMain, Unwritable, OutOfMemory}
 use Rattle.av_cli.specs.Machine.{IsMain}
 use Rattle.av_cli.specs.Promise.{IsCallGraph}
-use Rattle.av_cli.specs.Handing.{SinkState, Takes, TakesFront}
+use Rattle.av_cli.specs.Handing.{SinkState, Takes, TakesFront, AreCountsKept}
 use Rattle.av_cli.specs.Answers.{status_of, file_name, request, class_of_words, error_line}
 
 -- what a command sees of the outside: the files, where the host tells them, how its count of failed
@@ -46,8 +46,8 @@ NothingPrinted o = o.out_after ≡ o.out_before
 
 -- what an answer says of the bytes of the class's file, and of the printed output before and after
 abbrev pub Prints : List ℕ → List ℕ → SinkState → SinkState → Answer → Type 0
--- the lines of the class were printed, and nothing else
-Prints name bytes old new Printed = (text : List ℕ) × IsCallGraph name bytes text × Takes old new text
+-- the lines of the class were printed, and nothing else, and no print failed
+Prints name bytes old new Printed = (text : List ℕ) × IsCallGraph name bytes text × Takes old new text × AreCountsKept old new
 Prints name bytes old new OutsideForm = (¬ IsInForm name bytes) × (new ≡ old)
 Prints name bytes old new NoMain = LacksMain name bytes × (new ≡ old)
 -- the printed output failed behind a front of the lines
@@ -110,9 +110,9 @@ pub record IsFaultless (o : Outside) : Type 0 where
   pub reads : ¬ Rises o.reads_before o.reads_after
   pub writes : ¬ Rises o.out_before.faults o.out_after.faults
 
--- a sink took a line, or only a front of it where a count of its own rose
+-- a sink took a line and nothing failed, or only a front of it and a count of its own rose
 abbrev pub Says : SinkState → SinkState → List ℕ → Type 0
-Says old new line = Takes old new line ⊎ (TakesFront old new line × (Rises old.faults new.faults ⊎ Rises old.lacks new.lacks))
+Says old new line = (Takes old new line × AreCountsKept old new) ⊎ (TakesFront old new line × (Rises old.faults new.faults ⊎ Rises old.lacks new.lacks))
 
 -- how the command ended
 pub record Ends (words : List (List ℕ)) (o : Outside) (err_before err_after : SinkState) (status : Status) : Type 0 where

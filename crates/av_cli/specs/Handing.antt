@@ -23,10 +23,16 @@ pub record NeverFalls (old new : SinkState) : Type 0 where
   pub faults : old.faults ≤ new.faults
   pub lacks : old.lacks ≤ new.lacks
 
--- A text was handed over: all of it where the answer is Ok. Otherwise a front of it, and the count of the
--- fault that is answered has risen.
+-- Both counts are as they were.
+pub record AreCountsKept (old new : SinkState) : Type 0 where
+  pub faults : new.faults ≡ old.faults
+  pub lacks : new.lacks ≡ old.lacks
+
+-- A text was handed over: all of it where the answer is Ok, and no call failed. Otherwise a front of it, and
+-- the count of the fault that is answered has risen.
 pub record Handed (result : Result (Unit {0}) SinkFault) (old new : SinkState) (text : List ℕ) : Type 0 where
   pub whole : OnOk result (Takes old new text)
+  pub untroubled : OnOk result (AreCountsKept old new)
   pub front : OnErr result (TakesFront old new text)
   pub failed : OnSinkFailed result (Rises old.faults new.faults)
   pub lacking : OnSinkLacking result (Rises old.lacks new.lacks)

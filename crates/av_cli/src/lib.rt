@@ -13,6 +13,7 @@ mod top;
 mod words;
 
 pub use coverage::{class_lines, covers_runs, form_keeps_range};
+pub use graph::{GraphError, call_graph};
 pub use lines::call_lines;
 pub use reach::{are_calls_in_range, is_main, main_place, reached_methods};
 pub use status::{Answer, Status};

@@ -193,3 +193,19 @@ fn stops_where_the_output_fails(rt: HostRuntime) -> Result<(), Fail> {
     }
     Ok(())
 }
+
+#[test]
+fn ends_with_the_stated_numbers(rt: HostRuntime) {
+    let numbers = [
+        (Status::Done, 0),
+        (Status::Refused, 1),
+        (Status::Usage, 2),
+        (Status::ReadFault, 3),
+        (Status::WriteFault, 4),
+        (Status::Limit, 5),
+        (Status::Memory, 6),
+    ];
+    for (status, number) in numbers {
+        assert_eq!(rt; status.code(), number);
+    }
+}
