@@ -4,7 +4,7 @@ use Rattle.std.specs.Prelude.{IfSome, option_map}
 use Rattle.std.proofs.lemmas.List.{length-take, take_all}
 use Rattle.jv_host.specs.declared.host.HostFile.{HostFile}
 use Rattle.jv_host.specs.Files.{bytes_of}
-use Rattle.jv_class.specs.Form.{file_limit, IsStaticClass}
+use Rattle.jv_form.specs.Form.{file_limit, IsStaticClass}
 use Rattle.av_cli.specs.declared.status.Answer.{Answer}
 use Rattle.av_cli.specs.declared.status.Answer.TheVariants.{Printed, Misused, Unreadable, NoFile, OutsideForm, NoMain, Unwritable, OutOfMemory}
 use Rattle.av_cli.specs.Handing.{SinkState}
