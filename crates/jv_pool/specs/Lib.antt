@@ -1,0 +1,2 @@
+pub mod PoolText
+pub mod Lookups
