@@ -1,3 +1,4 @@
 pub mod Worlds
 pub mod Instances
 pub mod Refusals
+pub mod Kept

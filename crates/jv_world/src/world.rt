@@ -1,4 +1,5 @@
-ghost use Rattle.std.specs.Prelude.{◌≡◌, ℕ, ◌<◌, ◌↔◌, List, Some, length, map, slice_get, IsTrue, IfOk, IfErr, IfSome, IfNone};
+ghost use Rattle.std.specs.Prelude.{◌≡◌, ℕ, ◌<◌, ◌↔◌, List, Some, length, map, slice_get, IsTrue, IfOk, IfErr, IfSome, IfNone, Contains};
+ghost use Rattle.std.specs.List.Sorted.{IsStrictlyIncreasing};
 ghost use Rattle.jv_world.specs.Worlds.{IsNamed, HasSuperclass, Sub, AreSuperclasses, AreNumbered, AreProperSupers, IsWorld};
 ghost use Rattle.jv_world.specs.Refusals.{HasCause};
 
@@ -7,6 +8,14 @@ use indexmap::IndexSet;
 use jv_types::{ClassId, Name, Shape};
 use std::alloc::{AllocError, Global};
 use std::marker::Model;
+
+/// Whether a list of classes by rising numbers has this one.
+fn contains(classes: &[ClassId], class: ClassId) -> bool
+    requires { IsStrictlyIncreasing (map (λ c. c.number) classes.now) }
+    ensures { IsTrue result ↔ Contains classes.now class }
+{
+    classes.binary_search(&class).is_ok()
+}
 
 /// The classes and interfaces of a program, which clauses see as the list of their shapes. A class goes
 /// by its number, which is its place in the list.
@@ -22,7 +31,7 @@ pub struct World {
 impl Model for World {
     ghost use Rattle.std.specs.Prelude.{List};
     ghost use Rattle.jv_types.specs.declared.shapes.Shape.{Shape};
-    ghost use Rattle.jv_world.specs.Worlds.{IsWorld};
+    ghost use Rattle.jv_world.specs.Kept.{IsKept};
     ghost use Rattle.jv_types.specs.contracts.shapes.Shape as shape;
     ghost use Rattle.std.specs.Coded.{codes};
 
@@ -32,7 +41,7 @@ impl Model for World {
 
     ghost view = { λ w. w.shapes.items };
 
-    ghost invariant = { λ w. IsWorld w.shapes.items };
+    ghost invariant = { λ w. IsKept w.shapes.items w.names.keys w.supers.items };
 }
 
 impl World {
@@ -62,10 +71,12 @@ impl World {
         ensures none { IfNone result ((c : ℕ) → ¬ IsNamed self.now c name.now) }
         ensures world { IsWorld self.now }
     {
-        let number = self.names.get_index_of(name.as_slice())?;
-        Some(ClassId {
-            number: number as u32,
-        })
+        match self.names.get_index_of(name.as_slice()) {
+            None => None,
+            Some(number) => Some(ClassId {
+                number: number as u32,
+            }),
+        }
     }
 
     /// The shape of a class.
@@ -85,7 +96,8 @@ impl World {
         ensures exact { IsTrue result ↔ Sub self.now a.number b.number }
         ensures world { IsWorld self.now }
     {
-        a == b || self.supers[a.number as usize].binary_search(&b).is_ok()
+        let supers = self.proper_supers(a);
+        a == b || contains(supers, b)
     }
 
     /// The direct superclass of a class; none of Object alone (JVMS 4.1).
@@ -95,8 +107,10 @@ impl World {
         ensures none { IfNone result ((d : ℕ) → ¬ HasSuperclass self.now c.number d) }
         ensures world { IsWorld self.now }
     {
-        let parent = self.shape(c).parent.as_ref()?;
-        self.class(parent)
+        match &self.shape(c).parent {
+            None => None,
+            Some(parent) => self.class(parent),
+        }
     }
 
     /// The superclasses of a class, the direct one first and Object last. Only memory can be wanting.

@@ -1,0 +1,4 @@
+mod Arrays
+mod Names
+mod Rising
+mod Subtypes
