@@ -1,4 +1,6 @@
 mod Arrays
-mod Names
+mod Choices
+mod NamesFound
+mod Ranking
 mod Rising
 mod Subtypes

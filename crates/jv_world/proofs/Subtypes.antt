@@ -62,6 +62,10 @@ pub IsSubNamed-not : (w : List Shape) (name of : List ℕ) → (name ≡ of → 
 IsSubNamed-not w name of other none sub =
     ⊎_elim (λ same_names. other same_names) (λ (links : (c : ℕ) × (d : ℕ) × IsNamed w c name × IsNamed w d of × Sub w c d). none links.0 links.1 links.2 links.3) sub
 
+pub IsSubNamed-no_class : (w : List Shape) (name of : List ℕ) → (name ≡ of → ⊥) → ((c : ℕ) (d : ℕ) → IsNamed w c name → IsNamed w d of → ⊥)
+    → (IsTrue false → IsSubNamed w name of) × (IsSubNamed w name of → IsTrue false)
+IsSubNamed-no_class w name of other none = (λ h. absurd (false≢true h), λ sub. absurd (IsSubNamed-not w name of other none sub))
+
 -- names that compare as different
 pub other_name : (name of : List ℕ) (t : Bool) → t ≡ pointwise nat_eq name of → t ≡ false → name ≡ of → ⊥
 other_name name of t is differs same_names = false≢true (sym differs ∙ is ∙ (bytes_decides name of).1 same_names)

@@ -6,8 +6,8 @@ use Rattle.jv_types.specs.declared.ids.ClassId.{ClassId}
 use Rattle.jv_types.specs.declared.shapes.Shape.{Shape}
 use Rattle.jv_world.specs.Worlds.{AreProperSupers, IsWorld}
 
-pub record IsKept (w : List Shape) (names : List (Vec ℕ Global)) (supers : List (Vec ClassId Global)) : Type 0 where
+pub record IsKept (w : List Shape) (names : List (List ℕ)) (supers : List (Vec ClassId Global)) : Type 0 where
   pub world : IsWorld w
-  pub names_are : map (λ n. n.items) names ≡ map (λ s. s.name) w
+  pub names_are : names ≡ map (λ s. s.name) w
   pub supers_count : length supers ≡ length w
   pub supers_are : (c : ℕ) (ds : Vec ClassId Global) → slice_get supers c ≡ Some ds → AreProperSupers w c ds.items

@@ -25,7 +25,9 @@ impl World {
         }
         match (self.class(name), self.class(of)) {
             (Some(class), Some(other)) => self.sub(class, other),
-            _ => false,
+            (Some(_), None) => false,
+            (None, Some(_)) => false,
+            (None, None) => false,
         }
     }
 

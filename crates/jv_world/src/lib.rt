@@ -2,6 +2,8 @@
 #![tactic(auto)]
 
 mod instance;
+mod links;
+mod names;
 mod refusal;
 mod world;
 

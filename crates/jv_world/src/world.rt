@@ -3,8 +3,8 @@ ghost use Rattle.std.specs.List.Sorted.{IsStrictlyIncreasing};
 ghost use Rattle.jv_world.specs.Worlds.{IsNamed, HasSuperclass, Sub, AreSuperclasses, AreNumbered, AreProperSupers, IsWorld};
 ghost use Rattle.jv_world.specs.Refusals.{HasCause};
 
+use crate::names::Names;
 use crate::refusal::HierRefusal;
-use indexmap::IndexSet;
 use jv_types::{ClassId, Name, Shape};
 use std::alloc::{AllocError, Global};
 use std::marker::Model;
@@ -23,7 +23,7 @@ fn contains(classes: &[ClassId], class: ClassId) -> bool
 pub struct World {
     shapes: Vec<Shape>,
     /// The names, in the order of the shapes.
-    names: IndexSet<Vec<u8>>,
+    names: Names,
     /// The proper supertypes of each class, least number first.
     supers: Vec<Vec<ClassId>>,
 }
@@ -41,7 +41,7 @@ impl Model for World {
 
     ghost view = { λ w. w.shapes.items };
 
-    ghost invariant = { λ w. IsKept w.shapes.items w.names.keys w.supers.items };
+    ghost invariant = { λ w. IsKept w.shapes.items w.names w.supers.items };
 }
 
 impl World {
@@ -71,7 +71,7 @@ impl World {
         ensures none { IfNone result ((c : ℕ) → ¬ IsNamed self.now c name.now) }
         ensures world { IsWorld self.now }
     {
-        match self.names.get_index_of(name.as_slice()) {
+        match self.names.place(name) {
             None => None,
             Some(number) => Some(ClassId {
                 number: number as u32,
@@ -122,6 +122,8 @@ impl World {
         let mut found = Vec::new(alloc);
         let mut class = c;
         while let Some(next) = self.superclass(class) {
+            // each superclass has fewer supertypes, so the chain ends
+            prove!(self.supers[next.number as usize].len() < self.supers[class.number as usize].len());
             found.push(next)?;
             class = next;
         }
