@@ -1,5 +1,7 @@
 mod Arrays
 mod Choices
+mod Linking
+mod Marking
 mod NamesFound
 mod Ranking
 mod Rising

@@ -1,6 +1,6 @@
 -- What is made on the way to a world: the direct supertypes of each class by number, and the search for
 -- the others.
-use Rattle.std.specs.Prelude.{◌≡◌, ℕ, ◌<◌, ◌⊎◌, Bool, false, nat_eq, IsTrue, List, ◌++◌, Some, length, map, slice_get, slice_index_or, Contains}
+use Rattle.std.specs.Prelude.{◌≡◌, ℕ, ◌<◌, ◌^◌, ◌⊎◌, Bool, false, nat_eq, IsTrue, List, ◌++◌, Some, length, map, slice_get, slice_index_or, Contains}
 use Rattle.std.specs.List.{IsDistinct}
 use Rattle.std.specs.declared.alloc.Global.{Global}
 use Rattle.std.specs.declared.vec.Vec.{Vec}
@@ -12,6 +12,11 @@ use Rattle.jv_world.specs.Worlds.{HasSuper, ProperSub}
 abbrev pub Has : List ClassId → ℕ → Type 0
 Has ds n = Contains ds (record { number = n })
 
+-- a name stands at one place, and there are few enough for numbers of 32 bits
+pub record AreClassNames (names : List (List ℕ)) : Type 0 where
+  pub one : (c d : ℕ) (name : List ℕ) → slice_get names c ≡ Some name → slice_get names d ≡ Some name → c ≡ d
+  pub few : length names < 2 ^ 32
+
 -- the class of a name was added, if there is one
 pub record AddsNamed (names : List (List ℕ)) (name : List ℕ) (old new : List ClassId) : Type 0 where
   pub kept : (n : ℕ) → Has old n → Has new n
@@ -22,13 +27,32 @@ pub record AddsNamed (names : List (List ℕ)) (name : List ℕ) (old new : List
 abbrev pub NamesSuper : Shape → List ℕ → Type 0
 NamesSuper shape name = (shape.parent ≡ Some name) ⊎ Contains shape.interfaces name
 
--- the classes that have the names of a class's direct supertypes
-pub record IsRow (names : List (List ℕ)) (shape : Shape) (row : List ClassId) : Type 0 where
-  pub all : (n : ℕ) (name : List ℕ) → NamesSuper shape name → slice_get names n ≡ Some name → Has row n
-  pub only : (n : ℕ) → Has row n → (name : List ℕ) × NamesSuper shape name × (slice_get names n ≡ Some name)
+-- the classes that have the names of P
+pub record RowFor (P : List ℕ → Type 0) (names : List (List ℕ)) (row : List ClassId) : Type 0 where
+  pub all : (n : ℕ) (name : List ℕ) → P name → slice_get names n ≡ Some name → Has row n
+  pub only : (n : ℕ) → Has row n → (name : List ℕ) × P name × (slice_get names n ≡ Some name)
 
 -- the direct supertypes of each class
 pub record AreLinks (w : List Shape) (links : List (Vec ClassId Global)) : Type 0 where
   pub count : length links ≡ length w
   pub all : (c d : ℕ) (row : Vec ClassId Global) → slice_get links c ≡ Some row → HasSuper w c d → Has row.items d
   pub only : (c d : ℕ) (row : Vec ClassId Global) → slice_get links c ≡ Some row → Has row.items d → HasSuper w c d
+
+-- the mark of a number; past the end nothing is marked
+abbrev pub marked : List Bool → ℕ → Bool
+marked marks n = slice_index_or marks n false
+
+-- the marks are those of the classes found, each of which was found once
+pub record IsMarking (marks : List Bool) (found : List ClassId) : Type 0 where
+  pub into : (n : ℕ) → IsTrue (marked marks n) → Has found n
+  pub from : (n : ℕ) → Has found n → IsTrue (marked marks n)
+  pub distinct : IsDistinct nat_eq (map (λ d. d.number) found)
+
+-- the classes of P were found, behind those found before
+pub record AddsAll (P : ℕ → Type 0) (marks : List Bool) (found : List ClassId) (new_marks : List Bool) (new_found : List ClassId) : Type 0 where
+  pub marking : IsMarking new_marks new_found
+  pub count : length new_marks ≡ length marks
+  pub more : List ClassId
+  pub grown : new_found ≡ found ++ more
+  pub all : (n : ℕ) → P n → Has new_found n
+  pub only : (n : ℕ) → Has new_found n → Has found n ⊎ P n

@@ -2,6 +2,7 @@
 #![tactic(auto)]
 
 mod instance;
+mod closure;
 mod links;
 mod names;
 mod refusal;

@@ -1,5 +1,6 @@
-ghost use Rattle.std.specs.Prelude.{◌≡◌, ◌^◌, ◌<◌, length, map, IfOk, OnOk};
-ghost use Rattle.jv_world.specs.Building.{AreLinks, IsRow, AddsNamed};
+ghost use Rattle.std.specs.Prelude.{◌≡◌, Some, map, IfOk, OnOk};
+ghost use Rattle.jv_world.specs.Worlds.{AreNumbered};
+ghost use Rattle.jv_world.specs.Building.{AreLinks, AreClassNames, RowFor, NamesSuper, AddsNamed};
 
 use crate::names::Names;
 use jv_types::{ClassId, Name, Shape};
@@ -7,7 +8,7 @@ use std::alloc::{AllocError, Global};
 
 /// Adds the class of this name, if there is one. Only memory can be wanting.
 fn add_named(row: &mut Vec<ClassId>, names: &Names, name: &Name) -> Result<(), AllocError>
-    requires { length names.now < 2 ^ 32 }
+    requires { AreClassNames names.now }
     ensures { OnOk result (AddsNamed names.now name.now row.old.items row.new.items) }
 {
     if let Some(place) = names.place(name) {
@@ -18,15 +19,24 @@ fn add_named(row: &mut Vec<ClassId>, names: &Names, name: &Name) -> Result<(), A
     Ok(())
 }
 
-/// The direct supertypes of a class that are there. Only memory can be wanting.
-fn row_of(alloc: Global, shape: &Shape, names: &Names) -> Result<Vec<ClassId>, AllocError>
-    requires { length names.now < 2 ^ 32 }
-    ensures { IfOk result (λ row. IsRow names.now shape.now row.items) }
+/// The superclass of a class, if it is there. Only memory can be wanting.
+fn parent_row(alloc: Global, shape: &Shape, names: &Names) -> Result<Vec<ClassId>, AllocError>
+    requires { AreClassNames names.now }
+    ensures { IfOk result (λ row. RowFor (λ name. shape.now.parent ≡ Some name) names.now row.items) }
 {
     let mut row = Vec::new(alloc);
     if let Some(parent) = &shape.parent {
         add_named(&mut row, names, parent)?;
     }
+    Ok(row)
+}
+
+/// The direct supertypes of a class that are there. Only memory can be wanting.
+fn row_of(alloc: Global, shape: &Shape, names: &Names) -> Result<Vec<ClassId>, AllocError>
+    requires { AreClassNames names.now }
+    ensures { IfOk result (λ row. RowFor (NamesSuper shape.now) names.now row.items) }
+{
+    let mut row = parent_row(alloc, shape, names)?;
     for name in shape.interfaces.as_slice() {
         add_named(&mut row, names, name)?;
     }
@@ -39,7 +49,7 @@ pub fn links_of(
     shapes: &[Shape],
     names: &Names,
 ) -> Result<Vec<Vec<ClassId>>, AllocError>
-    requires few { length shapes.now < 2 ^ 32 }
+    requires numbered { AreNumbered shapes.now }
     requires names { names.now ≡ map (λ s. s.name) shapes.now }
     ensures { IfOk result (λ links. AreLinks shapes.now links.items) }
 {
