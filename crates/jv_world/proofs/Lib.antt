@@ -1,8 +1,13 @@
+mod Absent
 mod Arrays
+mod Built
 mod Choices
+mod SuperKinds
+mod Leasts
 mod Linking
 mod Marking
 mod NamesFound
+mod Searching
 mod Ranking
 mod Rising
 mod Subtypes

@@ -3,7 +3,7 @@ use Rattle.std.proofs.Common.{◌≡◌, ℕ, zero, suc, ◌+◌, ◌<◌, ◌�
 use Rattle.std.specs.List.{IsDistinct, list_any}
 use Rattle.std.specs.Cmp.{nat_eq_equiv}
 use Rattle.std.proofs.lemmas.Bool.{cases_eq, cases_lt, false≢true, eqb-true}
-use Rattle.std.proofs.lemmas.List.{length-set, get_or-set_same, get_or-set_other, length_push, get_or_read, map_push, get_or_past, length-map}
+use Rattle.std.proofs.lemmas.List.{length-set, get_or-set_same, get_or-set_other, length_push, get_or_read, map_push, get_or_past, get_or_default, length-map}
 use Rattle.std.proofs.lemmas.List.Elements.{Contains-append_left, Contains-push}
 use Rattle.std.proofs.lemmas.Map.Keys.{IsDistinct-push}
 use Rattle.std.proofs.lemmas.Map.Steps.{length-le_from_distinct_below}
@@ -11,7 +11,7 @@ use Rattle.std.proofs.lemmas.Map.Views.{Contains-from_any}
 use Rattle.jv_types.specs.declared.ids.ClassId.{ClassId}
 use Rattle.jv_world.specs.Building.{Has, marked, IsMarking, AddsAll}
 use Rattle.jv_world.proofs.Choices.{by_bool}
-use Rattle.jv_world.proofs.Linking.{Has-push, Contains-take_cases}
+use Rattle.jv_world.proofs.Linking.{Has-push, Contains-take_cases, Contains-take_kept, Contains-take_new}
 use Rattle.jv_world.proofs.Ranking.{Contains-class, Contains-numbers}
 
 -- what is marked is a class of the list
@@ -104,3 +104,17 @@ AddsAll-then P Q a af b bf c cf first second = record {
   where
     kept : (n : ℕ) → Has bf n → Has cf n
     kept n h = let P : List ClassId → Type 0 = λ l. Has l n in subst P (sym second.grown) (Contains-append_left bf second.more (record { number = n }) h)
+
+-- one class of a list more
+pub AddsAll-more : (row : List ClassId) (i : ℕ) (e : ClassId) (a : List Bool) (af : List ClassId) (b : List Bool) (bf : List ClassId) (c : List Bool) (cf : List ClassId)
+    → i < length row → AddsAll (Has (take i row)) a af b bf → AddsAll (λ n. n ≡ (get_or row i e).number) b bf c cf → AddsAll (Has (take (i + 1) row)) a af c cf
+AddsAll-more row i e a af b bf c cf below first second =
+    let item = get_or row i e in
+    let read = get_or_default row i e item below in
+    AddsAll-same (λ n. Has (take i row) n ⊎ (n ≡ item.number)) (Has (take (i + 1) row)) a af c cf
+    (λ n h.
+    ⊎_elim
+    (λ before. Contains-take_kept row i (record { number = n }) item below before)
+    (λ same. let Q : ℕ → Type 0 = λ k. Has (take (i + 1) row) k in subst Q (sym same) (Contains-take_new row i item below read)) h)
+    (λ n h. ⊎_elim (λ before. inl before) (λ same. inr (ap (λ (d : ClassId). d.number) same)) (Contains-take_cases row i (record { number = n }) item below read h))
+    (AddsAll-then (Has (take i row)) (λ n. n ≡ item.number) a af b bf c cf first second)

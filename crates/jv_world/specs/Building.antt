@@ -1,7 +1,8 @@
 -- What is made on the way to a world: the direct supertypes of each class by number, and the search for
 -- the others.
-use Rattle.std.specs.Prelude.{◌≡◌, ℕ, ◌<◌, ◌^◌, ◌⊎◌, Bool, false, nat_eq, IsTrue, List, ◌++◌, Some, length, map, slice_get, slice_index_or, Contains}
+use Rattle.std.specs.Prelude.{◌≡◌, ℕ, ◌<◌, ◌^◌, ◌⊎◌, Bool, false, nat_eq, IsTrue, List, [], ◌++◌, Some, length, map, slice_get, slice_index_or, Contains}
 use Rattle.std.specs.List.{IsDistinct}
+use Rattle.std.specs.List.Sorted.{IsStrictlyIncreasing}
 use Rattle.std.specs.declared.alloc.Global.{Global}
 use Rattle.std.specs.declared.vec.Vec.{Vec}
 use Rattle.jv_types.specs.declared.ids.ClassId.{ClassId}
@@ -56,3 +57,40 @@ pub record AddsAll (P : ℕ → Type 0) (marks : List Bool) (found : List ClassI
   pub grown : new_found ≡ found ++ more
   pub all : (n : ℕ) → P n → Has new_found n
   pub only : (n : ℕ) → Has new_found n → Has found n ⊎ P n
+
+-- a link from one class to another
+abbrev pub IsLinked : List (Vec ClassId Global) → ℕ → ℕ → Type 0
+IsLinked links c d = (row : Vec ClassId Global) × (slice_get links c ≡ Some row) × Has row.items d
+
+-- one link or more lead from one class to another
+pub data Leads (links : List (Vec ClassId Global)) : ℕ → ℕ → Type 0 where
+  straight : (c d : ℕ) → IsLinked links c d → Leads links c d
+  onward : (c m d : ℕ) → IsLinked links c m → Leads links m d → Leads links c d
+
+-- each link leads to a class of the list
+pub record AreInRange (links : List (Vec ClassId Global)) : Type 0 where
+  pub below : (c d : ℕ) → IsLinked links c d → d < length links
+
+-- the classes that links lead to, by rising numbers
+pub record AreLed (links : List (Vec ClassId Global)) (c : ℕ) (ds : List ClassId) : Type 0 where
+  pub all : (d : ℕ) → Leads links c d → Has ds d
+  pub only : (d : ℕ) → Has ds d → Leads links c d
+  pub rising : IsStrictlyIncreasing (map (λ d. d.number) ds)
+
+-- no class is marked or found
+pub record IsClear (links : List (Vec ClassId Global)) (marks : List Bool) (found : List ClassId) : Type 0 where
+  pub marking : IsMarking marks found
+  pub count : length marks ≡ length links
+  pub empty : found ≡ []
+
+-- the classes that links lead to are found
+pub record IsFound (links : List (Vec ClassId Global)) (c : ℕ) (marks : List Bool) (found : List ClassId) : Type 0 where
+  pub marking : IsMarking marks found
+  pub count : length marks ≡ length links
+  pub all : (d : ℕ) → Leads links c d → Has found d
+  pub only : (d : ℕ) → Has found d → Leads links c d
+
+-- what each of the first classes leads to
+pub record AreLedFrom (links : List (Vec ClassId Global)) (n : ℕ) (rows : List (Vec ClassId Global)) : Type 0 where
+  pub count : length rows ≡ n
+  pub rows_are : (c : ℕ) (row : Vec ClassId Global) → slice_get rows c ≡ Some row → AreLed links c row.items

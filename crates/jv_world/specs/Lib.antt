@@ -1,5 +1,6 @@
 pub mod Worlds
 pub mod Building
+pub mod Causes
 pub mod Instances
 pub mod Refusals
 pub mod Kept

@@ -2,8 +2,10 @@
 #![tactic(auto)]
 
 mod instance;
+mod causes;
 mod closure;
 mod links;
+mod lists;
 mod names;
 mod refusal;
 mod world;

@@ -1,21 +1,16 @@
-ghost use Rattle.std.specs.Prelude.{◌≡◌, ℕ, ◌<◌, ◌↔◌, List, Some, length, map, slice_get, IsTrue, IfOk, IfErr, IfSome, IfNone, Contains};
-ghost use Rattle.std.specs.List.Sorted.{IsStrictlyIncreasing};
+ghost use Rattle.std.specs.Prelude.{◌≡◌, ℕ, ◌<◌, ◌↔◌, List, Some, length, map, slice_get, IsTrue, IfOk, IfErr, IfSome, IfNone};
 ghost use Rattle.jv_world.specs.Worlds.{IsNamed, HasSuperclass, Sub, AreSuperclasses, AreNumbered, AreProperSupers, IsWorld};
 ghost use Rattle.jv_world.specs.Refusals.{HasCause};
 
+use crate::causes::{least_absent, least_circular, least_wrong};
+use crate::closure::all_led;
+use crate::links::links_of;
+use crate::lists::contains;
 use crate::names::Names;
 use crate::refusal::HierRefusal;
-use jv_types::{ClassId, Name, Shape};
+use jv_types::{ClassId, Copied, Name, Shape};
 use std::alloc::{AllocError, Global};
 use std::marker::Model;
-
-/// Whether a list of classes by rising numbers has this one.
-fn contains(classes: &[ClassId], class: ClassId) -> bool
-    requires { IsStrictlyIncreasing (map (λ c. c.number) classes.now) }
-    ensures { IsTrue result ↔ Contains classes.now class }
-{
-    classes.binary_search(&class).is_ok()
-}
 
 /// The classes and interfaces of a program, which clauses see as the list of their shapes. A class goes
 /// by its number, which is its place in the list.
@@ -54,7 +49,23 @@ impl World {
         ensures world { IfOk result IsWorld }
         ensures refused { IfErr result (HasCause shapes.items) }
     {
-        Err(HierRefusal::Memory)
+        let names = Names::of(alloc, shapes.as_slice())?;
+        if let Some(name) = least_absent(shapes.as_slice(), &names) {
+            return Err(HierRefusal::Missing(name.copy()?));
+        }
+        let links = links_of(alloc, shapes.as_slice(), &names)?;
+        let supers = all_led(alloc, links.as_slice())?;
+        if let Some(name) = least_circular(shapes.as_slice(), supers.as_slice()) {
+            return Err(HierRefusal::Circular(name.copy()?));
+        }
+        if let Some(name) = least_wrong(shapes.as_slice(), &names) {
+            return Err(HierRefusal::SuperKind(name.copy()?));
+        }
+        Ok(World {
+            shapes,
+            names,
+            supers,
+        })
     }
 
     /// The shapes, a class at the place of its number.

@@ -1,5 +1,5 @@
 use Rattle.jv_world.proofs.Rising.{searched}
-use Rattle.jv_world.proofs.world.contains.Goals as goal
+use Rattle.jv_world.proofs.lists.contains.Goals as goal
 
 pub returns : goal.returns
 returns c =
