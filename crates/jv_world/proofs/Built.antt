@@ -67,7 +67,7 @@ own_circular w links rows n are led all best least =
     let proper = h.2 in
     let here : h.0 < length w = HasSuper-from w h.0 proper.0 proper.1 in
     let own = row_at rows h.0 (rw (led.count ∙ all) here) in
-    (h.0, here, h.1, own.0, own.1, (led.rows_are h.0 own.0 own.1).all h.0 (proper-Leads w links are h.0 proper.0 h.0 proper.1 proper.2)))
+    (h.0, here, h.1, (own.0, own.1, (led.rows_are h.0 own.0 own.1).all h.0 (proper-Leads w links are h.0 proper.0 h.0 proper.1 proper.2))))
     least
 
 pub circular : (w : List Shape) (links rows : List (Vec ClassId Global)) (n : ℕ) (name made : List ℕ) → AreLinks w links → AreLedFrom links n rows → n ≡ length w
