@@ -104,8 +104,14 @@ IsLeastOf-absent w names best is least =
       names = h.4;
       nowhere = λ c named. h.5 c (ap (λ (l : List (List ℕ)). slice_get l c) is ∙ at_IsNamed w c n named);
     })
-    (λ n h. (h.here.0, h.shape, h.here.1, slice_get-get_or w h.here.0 h.shape h.here.1 ∙ ap Some h.here.2, h.names,
-    λ i at. h.nowhere i (IsNamed-at w i n (ap (λ (l : List (List ℕ)). slice_get l i) (sym is) ∙ at))))
+    (λ n h. (
+      h.here.0,
+      h.shape,
+      h.here.1,
+      slice_get-get_or w h.here.0 h.shape h.here.1 ∙ ap Some h.here.2,
+      h.names,
+      λ i at. h.nowhere i (IsNamed-at w i n (ap (λ (l : List (List ℕ)). slice_get l i) (sym is) ∙ at)),
+    ))
     least
   where
     get_there : (c : ℕ) (shape : Shape) → c < length w → slice_get w c ≡ Some shape → get_or w c shape ≡ shape

@@ -46,13 +46,14 @@ IsInstance-Array w t item = refl
 -- what is no array of references is an instance of none
 pub IsInstance-no_array : (w : List Shape) (t of item : RefType) → of ≡ Array item → ((own : RefType) → t ≡ Array own → ⊥)
     → (IsTrue false → IsInstance w t of) × (IsInstance w t of → IsTrue false)
-IsInstance-no_array w t of item is none =
-    (λ h. absurd (false≢true h),
-    λ instance.
-    let P : RefType → Type 0 = λ o. IsInstance w t o in
-    let Q : Type 0 → Type 0 = λ A. A in
-    let array = subst Q (IsInstance-Array w t item) (subst P is instance) in
-    absurd (none array.0 array.1))
+IsInstance-no_array w t of item is none = (
+  λ h. absurd (false≢true h),
+  λ instance.
+      let P : RefType → Type 0 = λ o. IsInstance w t o in
+      let Q : Type 0 → Type 0 = λ A. A in
+      let array = subst Q (IsInstance-Array w t item) (subst P is instance) in
+      absurd (none array.0 array.1),
+)
 
 -- arrays of references go by their items
 pub IsInstance-arrays : (w : List Shape) (t of s item p q : RefType) (r : Bool) → t ≡ Array s → of ≡ Array item → p ≡ s → q ≡ item
@@ -61,11 +62,12 @@ IsInstance-arrays w t of s item p q r is_t is_of is_p is_q says =
     let P : RefType → Type 0 = λ o. IsInstance w t o in
     let Q : Type 0 → Type 0 = λ A. A in
     let R : RefType → Type 0 = λ x. IsInstance w x q in
-    let S : RefType → Type 0 = λ x. IsInstance w s x in
-    (λ yes. subst P (sym is_of) (subst Q (sym (IsInstance-Array w t item)) (s, is_t, subst S is_q (subst R is_p (says.0 yes)))),
-    λ instance.
-    let array = subst Q (IsInstance-Array w t item) (subst P is_of instance) in
-    let T : RefType → Type 0 = λ x. IsInstance w x item in
-    let U : RefType → Type 0 = λ x. IsInstance w p x in
-    let own : array.0 ≡ p = sym (item_of-Array array.0) ∙ ap item_of (sym array.1 ∙ is_t) ∙ item_of-Array s ∙ sym is_p in
-    says.1 (subst U (sym is_q) (subst T own array.2)))
+    let S : RefType → Type 0 = λ x. IsInstance w s x in (
+      λ yes. subst P (sym is_of) (subst Q (sym (IsInstance-Array w t item)) (s, is_t, subst S is_q (subst R is_p (says.0 yes)))),
+      λ instance.
+          let array = subst Q (IsInstance-Array w t item) (subst P is_of instance) in
+          let T : RefType → Type 0 = λ x. IsInstance w x item in
+          let U : RefType → Type 0 = λ x. IsInstance w p x in
+          let own : array.0 ≡ p = sym (item_of-Array array.0) ∙ ap item_of (sym array.1 ∙ is_t) ∙ item_of-Array s ∙ sym is_p in
+          says.1 (subst U (sym is_q) (subst T own array.2)),
+    )

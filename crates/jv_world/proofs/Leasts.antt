@@ -54,7 +54,7 @@ IsLeastOf-more P Q (Some best) new name is own into cases least =
     (λ greater.
     let taken : new ≡ Some name = is ∙ ap (λ (b : Bool). if b then Some name else Some best) greater in
     let below : is_gt (slice_cmp nat_cmp name best) ≡ false =
-        ap is_gt (nat_list_cmp_total.antisymm name best) ∙ gt_back (slice_cmp nat_cmp best name) greater in
+    ap is_gt (nat_list_cmp_total.antisymm name best) ∙ gt_back (slice_cmp nat_cmp best name) greater in
     subst R (sym taken)
     (record {
       holds = own;

@@ -3,6 +3,7 @@ mod Arrays
 mod Built
 mod Choices
 mod SuperKinds
+mod Counting
 mod Leasts
 mod Linking
 mod Marking

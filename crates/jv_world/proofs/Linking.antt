@@ -79,10 +79,11 @@ AreRows-more w names i shape links new_links row below is made grown so_far =
       rows = λ c r at.
           ⊎_elim
           (λ before. so_far.rows c r before)
-          (λ (last : (c ≡ length links) × (r ≡ row)).
-          (shape,
-          ap (λ (n : ℕ). slice_get w n) (last.0 ∙ so_far.count) ∙ slice_get-get_or w i shape below ∙ ap Some (sym is),
-          let Q : Vec ClassId Global → Type 0 = λ v. RowFor (NamesSuper shape) names v.items in subst Q (sym last.1) made))
+          (λ (last : (c ≡ length links) × (r ≡ row)). (
+            shape,
+            ap (λ (n : ℕ). slice_get w n) (last.0 ∙ so_far.count) ∙ slice_get-get_or w i shape below ∙ ap Some (sym is),
+            let Q : Vec ClassId Global → Type 0 = λ v. RowFor (NamesSuper shape) names v.items in subst Q (sym last.1) made,
+          ))
           (slice_get-push links row c r at);
     })
 

@@ -30,7 +30,7 @@ pub found_few : (marks : List Bool) (found : List ClassId) → IsMarking marks f
 found_few marks found marking =
     let numbers : List ℕ = map (λ (d : ClassId). d.number) found in
     let within = length-le_from_distinct_below numbers (length marks) marking.distinct
-        (λ q member. marked_below marks q (marking.from q (Contains-class found q (Contains-from_any (λ x y h. eqb-true x y h) q numbers member)))) in
+    (λ q member. marked_below marks q (marking.from q (Contains-class found q (Contains-from_any (λ x y h. eqb-true x y h) q numbers member)))) in
     omega (arith, within, length-map found (λ (d : ClassId). d.number))
 
 -- classes that are found already
@@ -52,9 +52,9 @@ AddsAll-one marks found new class marking below fresh grown =
     let numbers : List ℕ = map (λ (d : ClassId). d.number) found in
     let P : List ClassId → Type 0 = λ l. AddsAll (λ m. m ≡ n) marks found (set marks n true) l in
     let unmarked : list_any (nat_eq n) numbers ≡ false =
-        by_bool (list_any (nat_eq n) numbers)
-        (λ member. absurd (false≢true (sym fresh ∙ marking.from n (Contains-class found n (Contains-from_any (λ x y h. eqb-true x y h) n numbers member)))))
-        (λ none. none) in
+    by_bool (list_any (nat_eq n) numbers)
+    (λ member. absurd (false≢true (sym fresh ∙ marking.from n (Contains-class found n (Contains-from_any (λ x y h. eqb-true x y h) n numbers member)))))
+    (λ none. none) in
     let D : List ℕ → Type 0 = λ l. IsDistinct nat_eq l in
     subst P (sym grown)
     (record {

@@ -1,19 +1,19 @@
 -- Names and the classes of a world that have them.
 use Rattle.std.proofs.Common.{◌≡◌, ℕ, zero, suc, ◌+◌, ◌<◌, ◌≤◌, if◌then◌else◌, IfSome, IfNone, take, ◌++◌, arith, Bool, true, false, List, [], ◌∷◌, length, map, get_or, Option, Some, None, position, nat_eq, slice_get, option_map, is_some, refl, sym, ap, ◌∙◌, ⊎_elim}
-use Rattle.std.specs.List.{list_any}
+use Rattle.std.specs.List.{list_any, IsDistinct}
 use Rattle.indexmap.specs.IndexSet.{insert_key}
-use Rattle.std.proofs.lemmas.List.{map_push, map_more}
+use Rattle.std.proofs.lemmas.List.{map_push, map_more, take_all}
 use Rattle.std.proofs.lemmas.List.Folds.{Any-from_list_any}
-use Rattle.std.proofs.lemmas.Bool.{false≢true}
-use Rattle.std.proofs.lemmas.Option.{slice_get_cases, slice_get-map, slice_get-get_or, none-some, same_Some}
+use Rattle.std.proofs.lemmas.Bool.{false≢true, cases_lt}
+use Rattle.std.proofs.lemmas.Option.{slice_get_cases, slice_get-map, slice_get-get_or, none-some, same_Some, slice_get_within, get_or_from_slice_get}
 use Rattle.std.proofs.lemmas.List.Quantifiers.{position-Some}
-use Rattle.std.proofs.lemmas.Map.Keys.{any_passes_from_place}
+use Rattle.std.proofs.lemmas.Map.Keys.{any_passes_from_place, apart_from_distinct}
 use Rattle.std.specs.Cmp.Lexicographic.{pointwise, bytes_decides}
 use Rattle.std.specs.declared.alloc.Global.{Global}
 use Rattle.std.specs.declared.vec.Vec.{Vec}
 use Rattle.jv_world.proofs.Choices.{by_bool}
 use Rattle.jv_types.specs.declared.shapes.Shape.{Shape}
-use Rattle.jv_world.specs.Worlds.{IsNamed, AreNumbered}
+use Rattle.jv_world.specs.Worlds.{IsNamed, AreNumbered, HaveDistinctNames}
 
 -- an element that is mapped to this one
 pub slice_get-map_back : {A B : Type 0} (f : A → B) (xs : List A) (i : ℕ) (y : B) → slice_get (map f xs) i ≡ Some y → (x : A) × (slice_get xs i ≡ Some x) × (f x ≡ y)
@@ -77,28 +77,64 @@ slice_get-take (suc i) (y ∷ ys) (suc j) x h =
 abbrev is_same_key : Vec ℕ Global → Vec ℕ Global → Bool
 is_same_key x y = pointwise nat_eq x.items y.items
 
--- the key of one more shape
-pub names_more : (w : List Shape) (i : ℕ) (shape : Shape) (keys new_keys : List (Vec ℕ Global)) (v : Vec ℕ Global) → AreNumbered w → i < length w → shape ≡ get_or w i shape
-    → v.items ≡ shape.name → new_keys ≡ insert_key (λ x y. pointwise nat_eq x.items y.items) keys v
-    → map (λ k. k.items) keys ≡ map (λ s. s.name) (take i w) → map (λ k. k.items) new_keys ≡ map (λ s. s.name) (take (i + 1) w)
-names_more w i shape keys new_keys v numbered below is named inserted so_far =
-    by_bool (list_any (is_same_key v) keys)
-    (λ there.
+-- a key that is there already is of an earlier shape
+pub names_twice : (w : List Shape) (i : ℕ) (shape : Shape) (keys : List (Vec ℕ Global)) (v : Vec ℕ Global) → HaveDistinctNames w → i < length w → shape ≡ get_or w i shape → v.items ≡ shape.name
+    → map (λ k. k.items) keys ≡ map (λ s. s.name) (take i w) → list_any (λ y. pointwise nat_eq v.items y.items) keys ≡ true → ⊥
+names_twice w i shape keys v distinct below is named so_far there =
     let any = Any-from_list_any (is_same_key v) keys there in
     let same_items : v.items ≡ any.1.items = (bytes_decides v.items any.1.items).0 any.4 in
     let at : slice_get (map (λ (k : Vec ℕ Global). k.items) keys) any.0 ≡ Some shape.name =
-        slice_get-map (λ (k : Vec ℕ Global). k.items) keys any.0
-        ∙ ap (option_map (λ (k : Vec ℕ Global). k.items)) (slice_get-get_or keys any.0 any.1 any.2)
-        ∙ ap Some (ap (λ (k : Vec ℕ Global). k.items) any.3 ∙ sym same_items ∙ named) in
+    slice_get-map (λ (k : Vec ℕ Global). k.items) keys any.0
+    ∙ ap (option_map (λ (k : Vec ℕ Global). k.items)) (slice_get-get_or keys any.0 any.1 any.2)
+    ∙ ap Some (ap (λ (k : Vec ℕ Global). k.items) any.3 ∙ sym same_items ∙ named) in
     let before = slice_get-map_back (λ (s : Shape). s.name) (take i w) any.0 shape.name (ap (λ (l : List (List ℕ)). slice_get l any.0) (sym so_far) ∙ at) in
     let early = slice_get-take i w any.0 before.0 before.1 in
     let here : slice_get w i ≡ Some shape = slice_get-get_or w i shape below ∙ ap Some (sym is) in
-    let both = numbered.distinct any.0 i shape.name (before.0, early.1, before.2) (shape, here, refl) in
-    absurd (omega (arith, both, early.0)))
-    (λ fresh.
+    let both = distinct any.0 i shape.name (before.0, early.1, before.2) (shape, here, refl) in
+    absurd (omega (arith, both, early.0))
+
+-- the key of one more shape
+pub names_grown : (w : List Shape) (i : ℕ) (shape : Shape) (keys new_keys : List (Vec ℕ Global)) (v : Vec ℕ Global) → i < length w → shape ≡ get_or w i shape
+    → v.items ≡ shape.name → new_keys ≡ insert_key (λ x y. pointwise nat_eq x.items y.items) keys v → list_any (λ y. pointwise nat_eq v.items y.items) keys ≡ false
+    → map (λ k. k.items) keys ≡ map (λ s. s.name) (take i w) → map (λ k. k.items) new_keys ≡ map (λ s. s.name) (take (i + 1) w)
+names_grown w i shape keys new_keys v below is named inserted fresh so_far =
     let grown : new_keys ≡ keys ++ v ∷ [] = inserted ∙ ap (λ b. if b then keys else keys ++ v ∷ []) fresh in
     ap (map (λ (k : Vec ℕ Global). k.items)) grown
     ∙ map_push (λ (k : Vec ℕ Global). k.items) keys v
     ∙ ap (λ l. l ++ v.items ∷ []) so_far
     ∙ ap (λ (n : List ℕ). map (λ (s : Shape). s.name) (take i w) ++ n ∷ []) (named ∙ ap (λ (s : Shape). s.name) is)
-    ∙ sym (map_more (λ (s : Shape). s.name) w i shape below))
+    ∙ sym (map_more (λ (s : Shape). s.name) w i shape below)
+
+-- the same, where names are distinct
+pub names_more : (w : List Shape) (i : ℕ) (shape : Shape) (keys new_keys : List (Vec ℕ Global)) (v : Vec ℕ Global) → AreNumbered w → i < length w → shape ≡ get_or w i shape
+    → v.items ≡ shape.name → new_keys ≡ insert_key (λ x y. pointwise nat_eq x.items y.items) keys v
+    → map (λ k. k.items) keys ≡ map (λ s. s.name) (take i w) → map (λ k. k.items) new_keys ≡ map (λ s. s.name) (take (i + 1) w)
+names_more w i shape keys new_keys v numbered below is named inserted so_far =
+    by_bool (list_any (is_same_key v) keys)
+    (λ there. absurd (names_twice w i shape keys v numbered.distinct below is named so_far there))
+    (λ fresh. names_grown w i shape keys new_keys v below is named inserted fresh so_far)
+
+-- different keys are of different names
+pub names_distinct : (w : List Shape) (i : ℕ) (keys : List (Vec ℕ Global)) → length w ≤ i → map (λ k. k.items) keys ≡ map (λ s. s.name) (take i w)
+    → IsDistinct (λ x y. pointwise nat_eq x.items y.items) keys → HaveDistinctNames w
+names_distinct w i keys past so_far distinct c d name named_c named_d =
+    ⊎_elim
+    (λ (low : c < d). absurd (clash c d name named_c named_d low))
+    (λ (high : d ≤ c). ⊎_elim (λ (lower : d < c). absurd (clash d c name named_d named_c lower)) (λ (upper : c ≤ d). omega (arith, high, upper)) (cases_lt d c))
+    (cases_lt c d)
+  where
+    key_at : (k : ℕ) (n : List ℕ) → IsNamed w k n → (v : Vec ℕ Global) × (slice_get keys k ≡ Some v) × (v.items ≡ n)
+    key_at k n named = slice_get-map_back (λ (v : Vec ℕ Global). v.items) keys k n
+        (ap (λ (l : List (List ℕ)). slice_get l k) (so_far ∙ ap (map (λ (s : Shape). s.name)) (take_all i w past)) ∙ at_IsNamed w k n named)
+
+    clash : (k j : ℕ) (n : List ℕ) → IsNamed w k n → IsNamed w j n → k < j → ⊥
+    clash k j n named_k named_j before =
+        let first = key_at k n named_k in
+        let second = key_at j n named_j in
+        let apart = apart_from_distinct (λ (x y : Vec ℕ Global). pointwise nat_eq x.items y.items) keys k j first.0 distinct before (slice_get_within keys j second.0 second.1) in
+        let at_k = get_or_from_slice_get keys k first.0 first.0 first.1 in
+        let at_j = get_or_from_slice_get keys j second.0 first.0 second.1 in
+        let equal : pointwise nat_eq (get_or keys k first.0).items (get_or keys j first.0).items ≡ true =
+        (bytes_decides (get_or keys k first.0).items (get_or keys j first.0).items).1
+        (ap (λ (v : Vec ℕ Global). v.items) at_k ∙ first.2 ∙ sym second.2 ∙ ap (λ (v : Vec ℕ Global). v.items) (sym at_j)) in
+        false≢true (sym apart ∙ equal)

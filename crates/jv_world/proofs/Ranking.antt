@@ -62,7 +62,7 @@ IsDistinct-one_more n xs rising fresh =
 shorter : (n : ℕ) (xs ys : List ℕ) → IsStrictlyIncreasing xs → (Contains xs n → ⊥) → Contains ys n → ((m : ℕ) → Contains xs m → Contains ys m) → length xs < length ys
 shorter n xs ys rising fresh has inside =
     let within = length-le_from_is_member nat_eq_equiv (n ∷ xs) ys (IsDistinct-one_more n xs rising fresh)
-        (λ q member. list_any-from_Contains nat_eq_equiv q ys (moved q (Contains-from_any exact_eq q (n ∷ xs) member))) in
+    (λ q member. list_any-from_Contains nat_eq_equiv q ys (moved q (Contains-from_any exact_eq q (n ∷ xs) member))) in
     omega (arith, within)
   where
     moved : (q : ℕ) → Contains (n ∷ xs) q → Contains ys q
@@ -73,7 +73,7 @@ shorter n xs ys rising fresh has inside =
 pub fewer : (n bound : ℕ) (xs : List ℕ) → IsStrictlyIncreasing xs → (Contains xs n → ⊥) → n < bound → ((m : ℕ) → Contains xs m → m < bound) → length xs < bound
 fewer n bound xs rising fresh here inside =
     let within = length-le_from_distinct_below (n ∷ xs) bound (IsDistinct-one_more n xs rising fresh)
-        (λ q member. moved q (Contains-from_any exact_eq q (n ∷ xs) member)) in
+    (λ q member. moved q (Contains-from_any exact_eq q (n ∷ xs) member)) in
     omega (arith, within)
   where
     moved : (q : ℕ) → Contains (n ∷ xs) q → q < bound
@@ -110,7 +110,7 @@ count_falls w rows supers c d first =
     let xs = numbers low.0.items in
     let ys = numbers high.0.items in
     let up : (m : ℕ) → Contains xs m → Contains ys m =
-        λ m has. Contains-numbers high.0.items (record { number = m }) (higher.all (record { number = m }) (d, first, Sub-proper w d m (lower.only (record { number = m }) (Contains-class low.0.items m has)))) in
+    λ m has. Contains-numbers high.0.items (record { number = m }) (higher.all (record { number = m }) (d, first, Sub-proper w d m (lower.only (record { number = m }) (Contains-class low.0.items m has)))) in
     let fresh : Contains xs d → ⊥ = λ has. supers.apart d (lower.only (record { number = d }) (Contains-class low.0.items d has)) in
     let has : Contains ys d = Contains-numbers high.0.items (record { number = d }) (higher.all (record { number = d }) (d, first, same d d refl)) in
     let less = shorter d xs ys lower.rising fresh has up in
@@ -129,7 +129,7 @@ count_bound w rows supers c here =
     let exact = supers.exact c own.0 own.1 in
     let xs = numbers own.0.items in
     let less = fewer c (length w) xs exact.rising (λ has. supers.apart c (exact.only (record { number = c }) (Contains-class own.0.items c has))) here
-        (λ m has. ProperSub-below w c m (exact.only (record { number = m }) (Contains-class own.0.items m has))) in
+    (λ m has. ProperSub-below w c m (exact.only (record { number = m }) (Contains-class own.0.items m has))) in
     omega (arith, less, count_at-is rows c own.0 own.1, length-map own.0.items (λ (e : ClassId). e.number))
 
 -- a world's ranks never rise along links, so no class is its own proper supertype
@@ -157,5 +157,5 @@ pub AreSuperclasses-more : (w : List Shape) (from at : ℕ) (found new_found : L
 AreSuperclasses-more w from at found new_found next first grown joins rest above =
     let P : List ℕ → Type 0 = λ l. AreSuperclasses w from l in
     let is : numbers found ++ next.number ∷ rest ≡ numbers new_found ++ rest =
-        sym (append_assoc (numbers found) (next.number ∷ []) rest) ∙ ap (λ l. l ++ rest) (sym (map_push (λ (d : ClassId). d.number) found next)) ∙ ap (λ l. numbers l ++ rest) (sym grown) in
+    sym (append_assoc (numbers found) (next.number ∷ []) rest) ∙ ap (λ l. l ++ rest) (sym (map_push (λ (d : ClassId). d.number) found next)) ∙ ap (λ l. numbers l ++ rest) (sym grown) in
     subst P is (joins (next.number ∷ rest) (first, above))

@@ -40,14 +40,15 @@ pub searched : (ds : List ClassId) (d : ClassId) (r : Result ℕ ℕ) → IsStri
 searched ds d (Ok i) rising range is =
     (λ _. (i, range, ap (λ (n : ℕ). let made : ClassId = record { number = n } in made) (ranked (get_or ds i d).number d.number Equal (is d))), λ _. refl)
 searched ds d (Err i) rising range is =
-    let parts = is (searchable_from_sorted nat_cmp_total (λ (y : ClassId). y.number) ds d.number (in_order ds rising)) in
-    (λ h. absurd (false≢true h),
-    λ found.
-    ⊎_elim
-    (λ (low : found.0 < i).
-    let less = ranked (get_or ds found.0 d).number d.number Less (parts.0 found.0 d (omega arith) low) in
-    absurd (omega (arith, less, ap (λ (y : ClassId). y.number) found.2)))
-    (λ (high : i ≤ found.0).
-    let greater = ranked (get_or ds found.0 d).number d.number Greater (parts.1 found.0 d high found.1) in
-    absurd (omega (arith, greater, ap (λ (y : ClassId). y.number) found.2)))
-    (cases_lt found.0 i))
+    let parts = is (searchable_from_sorted nat_cmp_total (λ (y : ClassId). y.number) ds d.number (in_order ds rising)) in (
+      λ h. absurd (false≢true h),
+      λ found.
+          ⊎_elim
+          (λ (low : found.0 < i).
+          let less = ranked (get_or ds found.0 d).number d.number Less (parts.0 found.0 d (omega arith) low) in
+          absurd (omega (arith, less, ap (λ (y : ClassId). y.number) found.2)))
+          (λ (high : i ≤ found.0).
+          let greater = ranked (get_or ds found.0 d).number d.number Greater (parts.1 found.0 d high found.1) in
+          absurd (omega (arith, greater, ap (λ (y : ClassId). y.number) found.2)))
+          (cases_lt found.0 i),
+    )

@@ -185,7 +185,7 @@ rising sorted in_order distinct k below =
     let le = ge_from_not_lt (get_or sorted (k + 1) e).number (get_or sorted k e).number (in_order k e (omega arith) within) in
     let apart : nat_eq (get_or (map number sorted) k 0) (get_or (map number sorted) (k + 1) 0) ≡ false = apart_from_distinct nat_eq (map number sorted) k (k + 1) 0 distinct (omega arith) below in
     let differ : (get_or (map number sorted) k 0 ≡ get_or (map number sorted) (k + 1) 0) → ⊥ =
-        λ same. false≢true (sym apart ∙ eq-eqb (get_or (map number sorted) k 0) (get_or (map number sorted) (k + 1) 0) same) in
+    λ same. false≢true (sym apart ∙ eq-eqb (get_or (map number sorted) k 0) (get_or (map number sorted) (k + 1) 0) same) in
     omega (arith, low, high, le, differ)
 
 -- what was found, sorted

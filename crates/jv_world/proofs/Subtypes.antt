@@ -46,16 +46,17 @@ HasSuperclass-none w c shape parent None at names none = λ d h.
 -- where both names are of classes
 pub IsSubNamed-by : (w : List Shape) (a b : ℕ) (name of : List ℕ) (t : Bool) → AreNumbered w → (name ≡ of → ⊥) → IsNamed w a name → IsNamed w b of
     → (IsTrue t → Sub w a b) × (Sub w a b → IsTrue t) → (IsTrue t → IsSubNamed w name of) × (IsSubNamed w name of → IsTrue t)
-IsSubNamed-by w a b name of t numbered other at_name at_of says =
-    (λ yes. inr (a, b, at_name, at_of, says.0 yes),
-    λ sub.
-    ⊎_elim
-    (λ same_names. absurd (other same_names))
-    (λ (links : (c : ℕ) × (d : ℕ) × IsNamed w c name × IsNamed w d of × Sub w c d).
-    says.1
-    (subst (λ (x : ℕ). Sub w x b) (numbered.distinct links.0 a name links.2 at_name)
-    (subst (λ (x : ℕ). Sub w links.0 x) (numbered.distinct links.1 b of links.3 at_of) links.4)))
-    sub)
+IsSubNamed-by w a b name of t numbered other at_name at_of says = (
+  λ yes. inr (a, b, at_name, at_of, says.0 yes),
+  λ sub.
+      ⊎_elim
+      (λ same_names. absurd (other same_names))
+      (λ (links : (c : ℕ) × (d : ℕ) × IsNamed w c name × IsNamed w d of × Sub w c d).
+      says.1
+      (subst (λ (x : ℕ). Sub w x b) (numbered.distinct links.0 a name links.2 at_name)
+      (subst (λ (x : ℕ). Sub w links.0 x) (numbered.distinct links.1 b of links.3 at_of) links.4)))
+      sub,
+)
 
 -- where one of two different names is of no class
 pub IsSubNamed-not : (w : List Shape) (name of : List ℕ) → (name ≡ of → ⊥) → ((c : ℕ) (d : ℕ) → IsNamed w c name → IsNamed w d of → ⊥) → IsSubNamed w name of → ⊥

@@ -58,17 +58,18 @@ HasRightSuperclass-none w shape name is none =
 pub HasRightSuperclass-some : (w : List Shape) (shape parent : Shape) (name : List ℕ) (i f : Bool) → AreNumbered w → shape.parent ≡ Some name → Contains w parent → parent.name ≡ name
     → (IsTrue i → IsInterface parent) × (IsInterface parent → IsTrue i) → (IsTrue f → IsFinal parent) × (IsFinal parent → IsTrue f) → i ≡ false
     → (IsTrue (not f) → HasRightSuperclass w shape) × (HasRightSuperclass w shape → IsTrue (not f))
-HasRightSuperclass-some w shape parent name i f numbered is has named interface final no_interface =
-    (λ yes. let P : Option (List ℕ) → Type 0 = RightAt in
-    subst P (sym is)
-    (λ other there same.
-    let one : parent ≡ other = one_shape w numbered parent other has there (named ∙ sym same) in
-    let Q : Shape → Type 0 = λ s. (IsInterface s → ⊥) × (IsFinal s → ⊥) in
-    subst Q one (λ h. false≢true (sym no_interface ∙ interface.1 h), λ h. clash f yes (final.1 h))),
-    λ right.
-    let P : Option (List ℕ) → Type 0 = RightAt in
-    let kinds = subst P is right in
-    denied f (λ yes. (kinds parent has named).1 (final.0 yes)))
+HasRightSuperclass-some w shape parent name i f numbered is has named interface final no_interface = (
+  λ yes. let P : Option (List ℕ) → Type 0 = RightAt in
+      subst P (sym is)
+      (λ other there same.
+      let one : parent ≡ other = one_shape w numbered parent other has there (named ∙ sym same) in
+      let Q : Shape → Type 0 = λ s. (IsInterface s → ⊥) × (IsFinal s → ⊥) in
+      subst Q one (λ h. false≢true (sym no_interface ∙ interface.1 h), λ h. clash f yes (final.1 h))),
+  λ right.
+      let P : Option (List ℕ) → Type 0 = RightAt in
+      let kinds = subst P is right in
+      denied f (λ yes. (kinds parent has named).1 (final.0 yes)),
+)
   where
     RightAt : Option (List ℕ) → Type 0
     RightAt o = MatchOption o (shape.name ≡ object_name) (λ n. (other : Shape) → Contains w other → other.name ≡ n → (IsInterface other → ⊥) × (IsFinal other → ⊥))
@@ -88,9 +89,10 @@ interface-none w name none = (λ _ other has same. absurd (none other has same),
 
 pub interface-some : (w : List Shape) (name : List ℕ) (own : Shape) (b : Bool) → AreNumbered w → Contains w own → own.name ≡ name → (IsTrue b → IsInterface own) × (IsInterface own → IsTrue b)
     → (IsTrue b → (other : Shape) → Contains w other → other.name ≡ name → IsInterface other) × (((other : Shape) → Contains w other → other.name ≡ name → IsInterface other) → IsTrue b)
-interface-some w name own b numbered has named says =
-    (λ yes other there same. let P : Shape → Type 0 = λ s. IsInterface s in subst P (one_shape w numbered own other has there (named ∙ sym same)) (says.0 yes),
-    λ all. says.1 (all own has named))
+interface-some w name own b numbered has named says = (
+  λ yes other there same. let P : Shape → Type 0 = λ s. IsInterface s in subst P (one_shape w numbered own other has there (named ∙ sym same)) (says.0 yes),
+  λ all. says.1 (all own has named),
+)
 
 -- one name more
 pub AreInterfaces-more : (w : List Shape) (wanted : List (List ℕ)) (i : ℕ) (name : List ℕ) → i < length wanted → name ≡ get_or wanted i name
@@ -101,10 +103,11 @@ AreInterfaces-more w wanted i name below is own before other there has =
 pub AreInterfaces-fails : (w : List Shape) (wanted : List (List ℕ)) (i : ℕ) (name : List ℕ) (b : Bool) → i < length wanted → name ≡ get_or wanted i name
     → (IsTrue b → (other : Shape) → Contains w other → other.name ≡ name → IsInterface other) × (((other : Shape) → Contains w other → other.name ≡ name → IsInterface other) → IsTrue b)
     → b ≡ false → (IsTrue false → AreInterfaces w wanted) × (AreInterfaces w wanted → IsTrue false)
-AreInterfaces-fails w wanted i name b below is says fails =
-    (λ h. absurd (false≢true h),
-    λ all. absurd (false≢true (sym fails ∙ says.1
-    (λ other there same. let P : List ℕ → Type 0 = λ n. Contains wanted n in all other there (subst P (sym same) (i, below, sym is))))))
+AreInterfaces-fails w wanted i name b below is says fails = (
+  λ h. absurd (false≢true h),
+  λ all. absurd (false≢true (sym fails ∙ says.1
+      (λ other there same. let P : List ℕ → Type 0 = λ n. Contains wanted n in all other there (subst P (sym same) (i, below, sym is))))),
+)
 
 pub AreInterfaces-all : (w : List Shape) (wanted : List (List ℕ)) (i : ℕ) → length wanted ≤ i → AreInterfaces w (take i wanted) → (IsTrue true → AreInterfaces w wanted) × (AreInterfaces w wanted → IsTrue true)
 AreInterfaces-all w wanted i past before =
@@ -116,13 +119,14 @@ AreInterfaces-nil w wanted other there has = absurd (omega (arith, has.1))
 -- all three of them
 pub HasRightSupers-all : (w : List Shape) (shape : Shape) (items : List (List ℕ)) (c : Bool) → items ≡ shape.interfaces → HasRightSuperclass w shape → AreInterfaces w items
     → (IsTrue c → ExtendsObject shape) × (ExtendsObject shape → IsTrue c) → (IsTrue c → HasRightSupers w shape) × (HasRightSupers w shape → IsTrue c)
-HasRightSupers-all w shape items c is parent interfaces object =
-    (λ yes. record {
-      superclass = parent;
-      superinterfaces = let P : List (List ℕ) → Type 0 = λ l. AreInterfaces w l in subst P is interfaces;
-      of_interface = object.0 yes;
-    },
-    λ right. object.1 right.of_interface)
+HasRightSupers-all w shape items c is parent interfaces object = (
+  λ yes. record {
+    superclass = parent;
+    superinterfaces = let P : List (List ℕ) → Type 0 = λ l. AreInterfaces w l in subst P is interfaces;
+    of_interface = object.0 yes;
+  },
+  λ right. object.1 right.of_interface,
+)
 
 pub HasRightSupers-no_parent : (w : List Shape) (shape : Shape) (b : Bool) → (IsTrue b → HasRightSuperclass w shape) × (HasRightSuperclass w shape → IsTrue b) → b ≡ false
     → (IsTrue false → HasRightSupers w shape) × (HasRightSupers w shape → IsTrue false)
@@ -130,9 +134,10 @@ HasRightSupers-no_parent w shape b says fails = (λ h. absurd (false≢true h), 
 
 pub HasRightSupers-no_interfaces : (w : List Shape) (shape : Shape) (items : List (List ℕ)) (b : Bool) → items ≡ shape.interfaces → (IsTrue b → AreInterfaces w items) × (AreInterfaces w items → IsTrue b)
     → b ≡ false → (IsTrue false → HasRightSupers w shape) × (HasRightSupers w shape → IsTrue false)
-HasRightSupers-no_interfaces w shape items b is says fails =
-    (λ h. absurd (false≢true h),
-    λ right. let P : List (List ℕ) → Type 0 = λ l. AreInterfaces w l in absurd (false≢true (sym fails ∙ says.1 (subst P (sym is) right.superinterfaces))))
+HasRightSupers-no_interfaces w shape items b is says fails = (
+  λ h. absurd (false≢true h),
+  λ right. let P : List (List ℕ) → Type 0 = λ l. AreInterfaces w l in absurd (false≢true (sym fails ∙ says.1 (subst P (sym is) right.superinterfaces))),
+)
 
 -- a class whose supertypes are right, and one whose supertypes are wrong
 pub wrong-same : (w : List Shape) (i : ℕ) (shape : Shape) (b : Bool) (best : Option (List ℕ)) → i < length w → shape ≡ get_or w i shape
@@ -174,9 +179,10 @@ wrong-none w n h = absurd (omega (arith, h.2))
 -- a row has its own class
 pub HasItself-row : (rows : List (Vec ClassId Global)) (c : ℕ) (row : Vec ClassId Global) (b : Bool) → slice_get rows c ≡ Some row
     → (IsTrue b → Has row.items c) × (Has row.items c → IsTrue b) → (IsTrue b → HasItself rows c) × (HasItself rows c → IsTrue b)
-HasItself-row rows c row b at says =
-    (λ yes. (row, at, says.0 yes),
-    λ own. let P : Vec ClassId Global → Type 0 = λ v. Has v.items c in says.1 (subst P (same_Some own.0 row (sym own.1 ∙ at)) own.2))
+HasItself-row rows c row b at says = (
+  λ yes. (row, at, says.0 yes),
+  λ own. let P : Vec ClassId Global → Type 0 = λ v. Has v.items c in says.1 (subst P (same_Some own.0 row (sym own.1 ∙ at)) own.2),
+)
 
 pub own-same : (w : List Shape) (rows : List (Vec ClassId Global)) (i : ℕ) (b : Bool) (best : Option (List ℕ)) → (IsTrue b → HasItself rows i) × (HasItself rows i → IsTrue b) → b ≡ false
     → IsLeastOf (IsOwnBefore w rows i) best → IsLeastOf (IsOwnBefore w rows (i + 1)) best

@@ -14,22 +14,12 @@ fn lesser<'a>(best: Option<&'a Name>, name: &'a Name) -> &'a Name
 {
     match best {
         None => name,
-        Some(other) => {
-            if other.cmp(name).is_gt() {
-                name
-            } else {
-                other
-            }
-        }
+        Some(other) => { if other.cmp(name).is_gt() { name } else { other } }
     }
 }
 
 /// The lesser of the best name so far and this one, if no class has it.
-fn or_absent<'a>(
-    best: Option<&'a Name>,
-    name: &'a Name,
-    names: &Names,
-) -> Option<&'a Name>
+fn or_absent<'a>(best: Option<&'a Name>, name: &'a Name, names: &Names) -> Option<&'a Name>
     ensures { TakesAbsent names.now name.now (option_copied best.entry) (option_copied result) }
 {
     match names.place(name) {
@@ -39,11 +29,7 @@ fn or_absent<'a>(
 }
 
 /// The lesser of the best name so far and that of the superclass, if no class has it.
-fn or_absent_parent<'a>(
-    best: Option<&'a Name>,
-    shape: &'a Shape,
-    names: &Names,
-) -> Option<&'a Name>
+fn or_absent_parent<'a>(best: Option<&'a Name>, shape: &'a Shape, names: &Names) -> Option<&'a Name>
     ensures { TakesAbsentParent names.now shape.now.parent (option_copied best.entry) (option_copied result) }
 {
     match &shape.parent {

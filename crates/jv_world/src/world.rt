@@ -79,6 +79,7 @@ impl World {
     /// The class or interface of this name, if the world has one.
     pub fn class(&self, name: &Name) -> Option<ClassId>
         ensures found { IfSome result (λ c. IsNamed self.now c.number name.now) }
+        ensures within { IfSome result (λ c. c.number < length self.now) }
         ensures none { IfNone result ((c : ℕ) → ¬ IsNamed self.now c name.now) }
         ensures world { IsWorld self.now }
     {
@@ -115,6 +116,7 @@ impl World {
     pub fn superclass(&self, c: ClassId) -> Option<ClassId>
         requires { c.number < length self.now }
         ensures found { IfSome result (λ d. HasSuperclass self.now c.number d.number) }
+        ensures within { IfSome result (λ d. d.number < length self.now) }
         ensures none { IfNone result ((d : ℕ) → ¬ HasSuperclass self.now c.number d) }
         ensures world { IsWorld self.now }
     {
@@ -134,7 +136,9 @@ impl World {
         let mut class = c;
         while let Some(next) = self.superclass(class) {
             // each superclass has fewer supertypes, so the chain ends
-            prove!(self.supers[next.number as usize].len() < self.supers[class.number as usize].len());
+            prove!(
+                self.supers[next.number as usize].len() < self.supers[class.number as usize].len()
+            );
             found.push(next)?;
             class = next;
         }

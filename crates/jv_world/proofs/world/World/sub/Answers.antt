@@ -12,10 +12,11 @@ returns-then-eq-clause-exact c =
 pub returns-else-eq-clause-exact : goal.returns-else-eq-clause-exact
 returns-else-eq-clause-exact c =
     let w = c.args.self.now in
-    let exact = c.proper_supers-supers.ensures.exact in
-    (λ yes. Sub-proper w c.args.a.number c.args.b.number (exact.only c.args.b (c.contains.ensures.0 yes)),
-    λ sub.
-    ⊎_elim
-    (λ equal. absurd (false≢true (sym c.if-eq.false ∙ c.eq.ensures ∙ eq-eqb c.args.a.number c.args.b.number equal)))
-    (λ proper. c.contains.ensures.1 (exact.all c.args.b proper))
-    (Sub-cases w c.args.a.number c.args.b.number sub))
+    let exact = c.proper_supers-supers.ensures.exact in (
+      λ yes. Sub-proper w c.args.a.number c.args.b.number (exact.only c.args.b (c.contains.ensures.0 yes)),
+      λ sub.
+          ⊎_elim
+          (λ equal. absurd (false≢true (sym c.if-eq.false ∙ c.eq.ensures ∙ eq-eqb c.args.a.number c.args.b.number equal)))
+          (λ proper. c.contains.ensures.1 (exact.all c.args.b proper))
+          (Sub-cases w c.args.a.number c.args.b.number sub),
+    )
