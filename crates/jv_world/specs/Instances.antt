@@ -1,0 +1,32 @@
+-- Which reference types are instances of which (JVMS 4.10.1.2, JLS 4.10.3).
+use Rattle.std.specs.Prelude.{◌≡◌, ℕ, ◌⊎◌, List, codes}
+use Rattle.jv_types.specs.declared.desc.RefType.{RefType, Class, PrimArray, Array, Array', Row_of-RefType, end_of-RefType, more_of-RefType}
+use Rattle.jv_types.specs.declared.shapes.Shape.{Shape}
+use Rattle.jv_world.specs.Worlds.{object_name, IsNamed, Sub}
+
+-- the class of one name is a subtype of the class of the other: the names are the same, or both classes
+-- are there and links lead from one to the other
+abbrev pub IsSubNamed : List Shape → List ℕ → List ℕ → Type 0
+IsSubNamed w name of = (name ≡ of) ⊎ ((c : ℕ) × (d : ℕ) × IsNamed w c name × IsNamed w d of × Sub w c d)
+
+-- the three classes and interfaces that every array is an instance of
+abbrev pub IsArraySuper : List ℕ → Type 0
+IsArraySuper name = (name ≡ object_name) ⊎ ((name ≡ codes "java/lang/Cloneable") ⊎ (name ≡ codes "java/io/Serializable"))
+
+-- an object of the type is an instance of the class or interface of this name
+abbrev pub IsInstanceOfClass : List Shape → RefType → List ℕ → Type 0
+IsInstanceOfClass w (Class name) of = IsSubNamed w name of
+IsInstanceOfClass w (PrimArray prim) of = IsArraySuper of
+IsInstanceOfClass w (Array' shape items) of = IsArraySuper of
+
+-- An object of the first type is an instance of the second. An array of primitives is one of the same array
+-- alone among arrays; an array of references is one of each array of what its items are instances of.
+abbrev mutual
+  pub IsInstance : List Shape → RefType → RefType → Type 0
+  IsInstance w type (Class of) = IsInstanceOfClass w type of
+  IsInstance w type (PrimArray prim) = type ≡ PrimArray prim
+  IsInstance w type (Array' shape items) = IsArrayOf w type items
+
+  pub IsArrayOf : List Shape → RefType → {m : _} → Row_of-RefType m → Type 0
+  IsArrayOf w type end_of-RefType = ⊥
+  IsArrayOf w type (more_of-RefType item rest) = (own : RefType) × (type ≡ Array own) × IsInstance w own item

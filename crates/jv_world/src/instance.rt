@@ -1,0 +1,62 @@
+ghost use Rattle.std.specs.Prelude.{◌↔◌, IsTrue};
+ghost use Rattle.jv_world.specs.Instances.{IsInstance, IsInstanceOfClass, IsArraySuper, IsSubNamed};
+
+use crate::world::World;
+use jv_types::{Name, RefType};
+
+/// Whether every array is an instance of the class or interface of this name (JLS 4.10.3).
+fn is_array_super(name: &Name) -> bool
+    ensures { IsTrue result ↔ IsArraySuper name.now }
+{
+    let name = name.as_slice();
+    name == b"java/lang/Object".as_slice()
+        || name == b"java/lang/Cloneable".as_slice()
+        || name == b"java/io/Serializable".as_slice()
+}
+
+impl World {
+    /// Whether the class of one name is a subtype of the class of the other. Each name is one of itself,
+    /// also where the world has no class of that name.
+    fn is_sub_named(&self, name: &Name, of: &Name) -> bool
+        ensures { IsTrue result ↔ IsSubNamed self.now name.now of.now }
+    {
+        if name == of {
+            return true;
+        }
+        match (self.class(name), self.class(of)) {
+            (Some(class), Some(other)) => self.sub(class, other),
+            (Some(_), None) => false,
+            (None, Some(_)) => false,
+            (None, None) => false,
+        }
+    }
+
+    /// Whether each object of the type `t` is an instance of the class or interface of this name.
+    fn is_instance_of_class(&self, t: &RefType, of: &Name) -> bool
+        ensures { IsTrue result ↔ IsInstanceOfClass self.now t.now of.now }
+    {
+        match t {
+            RefType::Class(name) => self.is_sub_named(name, of),
+            RefType::PrimArray(_) => is_array_super(of),
+            RefType::Array(_) => is_array_super(of),
+        }
+    }
+
+    /// Whether each object of the type `t` is an instance of `of` (JVMS 4.10.1.2, JLS 4.10.3). A class is
+    /// a subtype of itself, also where the world has none of its name.
+    pub fn is_instance(&self, t: &RefType, of: &RefType) -> bool
+        ensures { IsTrue result ↔ IsInstance self.now t.now of.now }
+    {
+        match (t, of) {
+            (_, RefType::Class(of)) => self.is_instance_of_class(t, of),
+            (RefType::PrimArray(prim), RefType::PrimArray(other)) => prim == other,
+            (RefType::Array(item), RefType::Array(other)) => {
+                self.is_instance(item.get(), other.get())
+            }
+            (RefType::Class(_), RefType::PrimArray(_)) => false,
+            (RefType::Class(_), RefType::Array(_)) => false,
+            (RefType::PrimArray(_), RefType::Array(_)) => false,
+            (RefType::Array(_), RefType::PrimArray(_)) => false,
+        }
+    }
+}
