@@ -2,12 +2,14 @@
 #![tactic(auto)]
 
 mod class_tables;
+mod code_tables;
 mod table;
 
 pub use class_tables::{
     FrameGroup, FrameRow, TagRow, TypeRow, frame_kind, frame_kinds, pool_tag, pool_tags, type_tag,
     type_tags,
 };
+pub use code_tables::{Cell, Form, Kind, OpRow, newarray_code, newarray_codes, opcode, opcodes};
 pub use table::Table;
 
 #[cfg(test)]
