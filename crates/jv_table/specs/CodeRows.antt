@@ -32,7 +32,7 @@ ops first count form takes gives kind =
 
 -- the opcodes (JVMS 6.5, and 7 for their numbers). Where the operands decide the cells, or words move
 -- whatever they hold, no cells stand here.
-abbrev pub opcode_rows : List (ℕ × OpForm)
+unfoldable pub opcode_rows : List (ℕ × OpForm)
 opcode_rows =
     -- nop
     ops 0 1 Nothing [] [] Word

@@ -1,8 +1,8 @@
-ghost use Rattle.std.specs.Prelude.{◌≡◌, map};
+ghost use Rattle.std.specs.Prelude.{◌≡◌, ◌<◌, ◌≤◌, ℕ, map, IsSome, Some, None};
 ghost use Rattle.std.specs.Option.{option_copied, option_map};
 ghost use Rattle.std.specs.Ordering.{nat_cmp};
 ghost use Rattle.jv_table.specs.Rows.{row_of};
-ghost use Rattle.jv_table.specs.CodeRows.{op_form, op_row_form, opcode_rows, newarray_rows};
+ghost use Rattle.jv_table.specs.CodeRows.{OpForm, op_form, op_row_form, opcode_rows, newarray_rows};
 
 use crate::table::Table;
 
@@ -341,3 +341,11 @@ pub fn newarray_code(code: u8) -> Option<u8>
 {
     newarray_codes().find(&code).copied()
 }
+
+/// The opcodes below 202 have a row each, which says the opcode itself, and no other number has one.
+/// This does nothing, and its contract is the law.
+pub fn opcodes_are_numbered()
+    ensures some { (op : ℕ) → op < 202 → IsSome (row_of nat_cmp op opcode_rows) }
+    ensures none { (op : ℕ) → 202 ≤ op → row_of nat_cmp op opcode_rows ≡ None }
+    ensures own { (op : ℕ) (row : OpForm) → row_of nat_cmp op opcode_rows ≡ Some row → row.op ≡ op }
+{}

@@ -9,7 +9,9 @@ pub use class_tables::{
     FrameGroup, FrameRow, TagRow, TypeRow, frame_kind, frame_kinds, pool_tag, pool_tags, type_tag,
     type_tags,
 };
-pub use code_tables::{Cell, Form, Kind, OpRow, newarray_code, newarray_codes, opcode, opcodes};
+pub use code_tables::{
+    Cell, Form, Kind, OpRow, newarray_code, newarray_codes, opcode, opcodes, opcodes_are_numbered,
+};
 pub use table::Table;
 
 #[cfg(test)]

@@ -5,7 +5,7 @@ use Rattle.std.proofs.lemmas.Bool.Decides.{nat_tests}
 use Rattle.std.proofs.lemmas.Cmp.{ranked}
 use Rattle.std.specs.Ordering.{nat_cmp, ordering_index}
 use Rattle.std.specs.List.Sorted.{IsNonDecreasingBy, IsBinarySearchResult, IsPartitionPoint}
-use Rattle.jv_types.specs.Bodies.{rises_from, insn_at, IsStart, IsNextStart}
+use Rattle.jv_types.specs.Bodies.{rises_from, at_offset, IsStart, IsNextStart}
 
 module _ {I : Type 0} where
   -- what a row that doesn't fall below a bound says, and what those after it do
@@ -36,26 +36,26 @@ module _ {I : Type 0} where
       starts_rise (row.0 + 1) rows (first_from low row.0 rows row.1 r).1 i j d (omega arith) (omega arith)
 
   -- what stands at a place is the instruction of its start
-  pub insn_at-at : (low pc : ℕ) (rows : List (ℕ × I)) → rises_from low rows ≡ true → (i : ℕ) (d : ℕ × I) → i < length rows → (get_or rows i d).0 ≡ pc → insn_at pc rows ≡ Some (get_or rows i d).1
-  insn_at-at low pc [] r i d lt e = absurd (omega arith)
-  insn_at-at low pc (row ∷ rows) r zero d lt e =
+  pub at_offset-at : (low pc : ℕ) (rows : List (ℕ × I)) → rises_from low rows ≡ true → (i : ℕ) (d : ℕ × I) → i < length rows → (get_or rows i d).0 ≡ pc → at_offset pc rows ≡ Some (get_or rows i d).1
+  at_offset-at low pc [] r i d lt e = absurd (omega arith)
+  at_offset-at low pc (row ∷ rows) r zero d lt e =
       let same : eqb row.0 pc ≡ true = grind (arith, nat_tests) in
       rw same refl
-  insn_at-at low pc (row ∷ rows) r (suc i) d lt e =
+  at_offset-at low pc (row ∷ rows) r (suc i) d lt e =
       let parts = first_from low row.0 rows row.1 r in
       let more = start_from (row.0 + 1) rows parts.1 i d (omega arith) in
       let other : eqb row.0 pc ≡ false = differs row.0 pc (omega arith) in
-      rw other (insn_at-at (row.0 + 1) pc rows parts.1 i d (omega arith) e)
+      rw other (at_offset-at (row.0 + 1) pc rows parts.1 i d (omega arith) e)
     where
       differs : (m n : ℕ) → m < n → eqb m n ≡ false
       differs m n lt = grind (arith, nat_tests)
 
   -- where no row starts at an offset there is no instruction
-  pub insn_at-none : (pc : ℕ) (rows : List (ℕ × I)) → ((j : ℕ) (d : ℕ × I) → j < length rows → (get_or rows j d).0 ≡ pc → ⊥) → insn_at pc rows ≡ None
-  insn_at-none pc [] none = refl
-  insn_at-none pc (row ∷ rows) none =
+  pub at_offset-none : (pc : ℕ) (rows : List (ℕ × I)) → ((j : ℕ) (d : ℕ × I) → j < length rows → (get_or rows j d).0 ≡ pc → ⊥) → at_offset pc rows ≡ None
+  at_offset-none pc [] none = refl
+  at_offset-none pc (row ∷ rows) none =
       let other : eqb row.0 pc ≡ false = differs row.0 pc (λ e. none 0 row (omega arith) e) in
-      rw other (insn_at-none pc rows (λ j d lt e. none (suc j) d (omega arith) e))
+      rw other (at_offset-none pc rows (λ j d lt e. none (suc j) d (omega arith) e))
     where
       differs : (m n : ℕ) → (m ≡ n → ⊥) → eqb m n ≡ false
       differs m n ne = grind (arith, nat_tests)
@@ -70,13 +70,13 @@ module _ {I : Type 0} where
   start_place pc [] s = absurd cc
   start_place pc (row ∷ rows) s = by_first (eqb row.0 pc) refl s (λ s. start_place pc rows s)
     where
-      by_first : (b : Bool) → eqb row.0 pc ≡ b → IsSome (cond b (Some row.1) (insn_at pc rows)) → (IsStart rows pc → StandsAt pc rows) → StandsAt pc (row ∷ rows)
+      by_first : (b : Bool) → eqb row.0 pc ≡ b → IsSome (cond b (Some row.1) (at_offset pc rows)) → (IsStart rows pc → StandsAt pc rows) → StandsAt pc (row ∷ rows)
       by_first true e s rest = let same : row.0 ≡ pc = grind (arith, nat_tests) in record { place = 0; within = omega arith; start = λ d. same }
       by_first false e s rest = let more = rest s in record { place = suc more.place; within = omega (arith, more.within); start = more.start }
 
   -- what stands at a place starts
   pub starts_at : (low pc : ℕ) (rows : List (ℕ × I)) → rises_from low rows ≡ true → (i : ℕ) (d : ℕ × I) → i < length rows → (get_or rows i d).0 ≡ pc → IsStart rows pc
-  starts_at low pc rows r i d lt e = rw (insn_at-at low pc rows r i d lt e) refl
+  starts_at low pc rows r i d lt e = rw (at_offset-at low pc rows r i d lt e) refl
 
   -- the comparisons with an offset rise along the rows
   comparisons_rise : (low pc : ℕ) (rows : List (ℕ × I)) → rises_from low rows ≡ true → IsNonDecreasingBy (λ (row : ℕ × I). ordering_index (nat_cmp row.0 pc)) rows
@@ -86,10 +86,10 @@ module _ {I : Type 0} where
       compared m n pc le = grind (arith, nat_tests)
 
   -- a search that finds nothing: nothing starts there
-  pub search_none : (low pc at : ℕ) (rows : List (ℕ × I)) → rises_from low rows ≡ true → IsBinarySearchResult (λ (row : ℕ × I). nat_cmp row.0 pc) rows (Err at) → at ≤ length rows → insn_at pc rows ≡ None
+  pub search_none : (low pc at : ℕ) (rows : List (ℕ × I)) → rises_from low rows ≡ true → IsBinarySearchResult (λ (row : ℕ × I). nat_cmp row.0 pc) rows (Err at) → at ≤ length rows → at_offset pc rows ≡ None
   search_none low pc at rows r found within =
       let parted = found (comparisons_rise low pc rows r) in
-      insn_at-none pc rows (λ j d lt e.
+      at_offset-none pc rows (λ j d lt e.
       elim (cases_lt j at) [
         | inl under ↦ let below = ranked _ pc _ (sym (parted.0 j d (omega arith) under)) in omega arith
         | inr over ↦ let above = ranked _ pc _ (sym (parted.1 j d over lt)) in omega arith

@@ -9,10 +9,10 @@ abbrev pub rises_from : {I : Type 0} → ℕ → List (ℕ × I) → Bool
 rises_from low [] = true
 rises_from low (row ∷ rows) = nat_le low row.0 && rises_from (row.0 + 1) rows
 
--- the instruction that starts at an offset
-abbrev pub insn_at : {I : Type 0} → ℕ → List (ℕ × I) → Option I
-insn_at pc [] = None
-insn_at pc (row ∷ rows) = if row.0 == pc then Some row.1 else insn_at pc rows
+-- what starts at an offset, of an instruction or of what stands beside it
+abbrev pub at_offset : {I : Type 0} → ℕ → List (ℕ × I) → Option I
+at_offset pc [] = None
+at_offset pc (row ∷ rows) = if row.0 == pc then Some row.1 else at_offset pc rows
 
 -- the targets of the operands, the default first and then in written order
 abbrev pub arg_targets : Arg → List ℕ
@@ -23,7 +23,7 @@ arg_targets _ = []
 
 -- the targets of the instruction that starts at an offset
 abbrev pub targets_at : ℕ → List (ℕ × Insn) → List ℕ
-targets_at pc insns = targets_of (insn_at pc insns)
+targets_at pc insns = targets_of (at_offset pc insns)
   where
     targets_of : Option Insn → List ℕ
     targets_of None = []
@@ -31,7 +31,7 @@ targets_at pc insns = targets_of (insn_at pc insns)
 
 -- an instruction starts at an offset
 abbrev pub IsStart : {I : Type 0} → List (ℕ × I) → ℕ → Type 0
-IsStart rows pc = IsSome (insn_at pc rows)
+IsStart rows pc = IsSome (at_offset pc rows)
 
 -- the least offset above this one at which an instruction starts
 pub record IsNextStart {I : Type 0} (pc : ℕ) (rows : List (ℕ × I)) (start : ℕ) : Type 0 where

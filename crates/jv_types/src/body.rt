@@ -58,11 +58,11 @@ pub struct Body {
 }
 
 impl Body {
-    ghost use Rattle.jv_types.specs.Bodies.{insn_at, targets_at, IsNextStart, IsStart};
+    ghost use Rattle.jv_types.specs.Bodies.{at_offset, targets_at, IsNextStart, IsStart};
 
     /// The instruction that starts at an offset. There is none exactly where none starts there.
     pub fn at(&self, pc: u16) -> Option<&Insn>
-        ensures value { option_copied result ≡ insn_at pc self.now.insns }
+        ensures value { option_copied result ≡ at_offset pc self.now.insns }
     {
         let insns = self.insns.as_slice();
         match insns.binary_search_by_key(&pc, |row| row.0) {

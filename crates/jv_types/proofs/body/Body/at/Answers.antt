@@ -1,7 +1,7 @@
 use Rattle.std.proofs.Common.{rules, sym}
 use Rattle.std.proofs.lemmas.Cmp.{ranked}
 use Rattle.std.proofs.lemmas.List.Sorted.{answers_always}
-use Rattle.jv_types.proofs.Starts.{insn_at-at, search_none}
+use Rattle.jv_types.proofs.Starts.{at_offset-at, search_none}
 use Rattle.jv_types.proofs.body.Body.at.Goals as goal
 
 pub returns-in-Ok : goal.returns-in-Ok
@@ -10,7 +10,7 @@ returns-in-Ok c =
     let by_start = facts.position (λ row. row.0) (answers_always _ _ _ (λ f a r g called. search rules)) in
     let e = c.as_slice-insns.ensures in
     let d = c.index-insns-place.result in
-    record { value = rw e (sym (insn_at-at 0 c.args.pc c.args.self.now.insns c.args.self.now.rising c.in-Ok.place d (rw (← e) facts.bound) (rw (← e) (ranked _ c.args.pc _ (sym (by_start d)))))) }
+    record { value = rw e (sym (at_offset-at 0 c.args.pc c.args.self.now.insns c.args.self.now.rising c.in-Ok.place d (rw (← e) facts.bound) (rw (← e) (ranked _ c.args.pc _ (sym (by_start d)))))) }
 
 pub returns-in-Err : goal.returns-in-Err
 returns-in-Err c =
