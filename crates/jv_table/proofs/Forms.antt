@@ -4,18 +4,21 @@ use Rattle.std.specs.Option.{option_map}
 use Rattle.std.specs.Ordering.{nat_cmp}
 use Rattle.std.specs.declared.cmp.Ordering.{Ordering}
 use Rattle.std.specs.declared.cmp.Ordering.TheVariants.{Less, Equal, Greater}
-use Rattle.jv_table.specs.declared.class_tables.TagRow.{TagRow}
-use Rattle.jv_table.specs.ClassRows.{tag_form, tag_row_form}
 use Rattle.jv_table.specs.Rows.{row_of}
 
--- the form of the row that is found is found among the forms
-pub row_of-forms : (key : ℕ) (rows : List (ℕ × TagRow)) → option_map tag_form (row_of nat_cmp key rows) ≡ row_of nat_cmp key (map tag_row_form rows)
-row_of-forms key [] = refl
-row_of-forms key (row ∷ rows) =
-    let rest = row_of-forms key rows in
-    by_head (nat_cmp key row.0) refl rest
-  where
-    by_head : (r : Ordering) → nat_cmp key row.0 ≡ r → option_map tag_form (row_of nat_cmp key rows) ≡ row_of nat_cmp key (map tag_row_form rows) → option_map tag_form (row_of nat_cmp key (row ∷ rows)) ≡ row_of nat_cmp key (map tag_row_form (row ∷ rows))
-    by_head Less e rest = rw e rest
-    by_head Equal e rest = rw e refl
-    by_head Greater e rest = rw e rest
+module _ {R F : Type 0} (form : R → F) where
+  -- a row with its key, in its form
+  abbrev with_form : ℕ × R → ℕ × F
+  with_form row = (row.0, form row.1)
+
+  -- the form of the row that is found is found among the forms
+  pub row_of-forms : (key : ℕ) (rows : List (ℕ × R)) → option_map form (row_of nat_cmp key rows) ≡ row_of nat_cmp key (map with_form rows)
+  row_of-forms key [] = refl
+  row_of-forms key (row ∷ rows) =
+      let rest = row_of-forms key rows in
+      by_head (nat_cmp key row.0) refl rest
+    where
+      by_head : (r : Ordering) → nat_cmp key row.0 ≡ r → option_map form (row_of nat_cmp key rows) ≡ row_of nat_cmp key (map with_form rows) → option_map form (row_of nat_cmp key (row ∷ rows)) ≡ row_of nat_cmp key (map with_form (row ∷ rows))
+      by_head Less e rest = rw e rest
+      by_head Equal e rest = rw e refl
+      by_head Greater e rest = rw e rest

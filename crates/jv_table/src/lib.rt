@@ -2,11 +2,15 @@
 #![tactic(auto)]
 
 mod class_tables;
+mod code_tables;
 mod table;
 
 pub use class_tables::{
     FrameGroup, FrameRow, TagRow, TypeRow, frame_kind, frame_kinds, pool_tag, pool_tags, type_tag,
     type_tags,
+};
+pub use code_tables::{
+    Cell, Form, Kind, OpRow, newarray_code, newarray_codes, opcode, opcodes, opcodes_are_numbered,
 };
 pub use table::Table;
 

@@ -67,3 +67,32 @@ fn gives_rows_by_place(rt: HostRuntime) {
     assert_eq!(rt; tags.row(13).map(|row| row.tag), Some(18));
     assert!(rt; tags.row(14).is_none());
 }
+
+#[test]
+fn finds_the_opcodes(rt: HostRuntime) -> Result<(), Fail> {
+    let add = opcode(0x61).ok_or("ladd has a row")?;
+    assert_eq!(rt; add.takes, [Cell::Long, Cell::Long].as_slice());
+    assert_eq!(rt; add.gives, [Cell::Long].as_slice());
+    assert_eq!(rt; (add.form, add.kind), (Form::Nothing, Kind::Word));
+    let store = opcode(0x53).ok_or("aastore has a row")?;
+    assert_eq!(rt; store.takes, [Cell::Ref, Cell::Int, Cell::Ref].as_slice());
+    for op in 0..202u8 {
+        assert_eq!(rt; opcode(op).map(|row| row.op), Some(op), "at {op}");
+    }
+    for op in 202..=255u8 {
+        assert!(rt; opcode(op).is_none(), "at {op}");
+    }
+    assert_eq!(rt; opcodes().row(201).map(|row| row.form), Some(Form::Jump4));
+    Ok(())
+}
+
+#[test]
+fn finds_the_newarray_codes(rt: HostRuntime) {
+    let codes = newarray_codes();
+    for (i, letter) in b"ZCFDBSIJ".iter().enumerate() {
+        assert_eq!(rt; codes.row(i).copied(), Some(*letter), "at {i}");
+    }
+    assert_eq!(rt; newarray_code(10), Some(b'I'));
+    assert_eq!(rt; newarray_code(3), None);
+    assert_eq!(rt; newarray_code(12), None);
+}

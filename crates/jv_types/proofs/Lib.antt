@@ -1,2 +1,4 @@
 pub mod NameParts
+pub mod Starts
 pub mod TypeKeys
+pub mod VTypeKeys

@@ -1,3 +1,5 @@
+pub mod Bodies
+pub mod Frames
 pub mod NameForms
 pub mod Rules
 pub mod Types

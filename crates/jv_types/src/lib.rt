@@ -2,12 +2,16 @@
 #![tactic(auto)]
 
 mod access;
+mod body;
 mod copied;
 mod copied_in;
 mod desc;
+mod frames;
 mod ids;
+mod instruction;
 mod name;
 mod name_forms;
+mod numbers;
 mod raw_handler;
 mod references;
 mod refusal;
@@ -16,10 +20,13 @@ mod seq;
 mod shapes;
 
 pub use access::Access;
+pub use body::{Body, Handler};
 pub use copied::Copied;
 pub use copied_in::CopiedIn;
 pub use desc::{Desc, MethodDesc, PrimType as Prim, RefType};
+pub use frames::{Frame, FramedBody, VType};
 pub use ids::{ClassId, FieldId, MethodId};
+pub use instruction::{Arg, Const, Insn};
 pub use name::Name;
 pub use name_forms::{class_names_are_parts, is_class_name, is_method_name, is_part};
 pub use raw_handler::RawHandler;
@@ -28,3 +35,6 @@ pub use refusal::{Refusal, RulePlace};
 pub use rule::Rule;
 pub use seq::Seq;
 pub use shapes::{FieldShape, MethodShape, Shape};
+
+#[cfg(test)]
+mod body_tests;

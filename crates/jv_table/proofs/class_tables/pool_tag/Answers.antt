@@ -8,4 +8,4 @@ use Rattle.jv_table.proofs.class_tables.pool_tag.Goals as goal
 
 pub returns : goal.returns
 returns c =
-    ap (option_map tag_form) c.find.ensures.value ∙ row_of-forms c.args.tag c.pool_tags.result ∙ ap (row_of nat_cmp c.args.tag) c.pool_tags.ensures
+    ap (option_map tag_form) c.find.ensures.value ∙ row_of-forms tag_form c.args.tag c.pool_tags.result ∙ ap (row_of nat_cmp c.args.tag) c.pool_tags.ensures
