@@ -1,6 +1,5 @@
 -- Access control (JVMS 5.4.4).
-use Rattle.std.specs.Prelude.{◌≡◌, ℕ, ◌⊎◌, ◌==◌, List, Option, Some, codes}
-use Rattle.std.specs.List.{before_last, slice_get}
+use Rattle.std.specs.Prelude.{◌≡◌, ℕ, ◌⊎◌, List, Option, Some, codes}
 use Rattle.jv_types.specs.declared.access.Access.{Access}
 use Rattle.jv_types.specs.declared.desc.RefType.{RefType}
 use Rattle.jv_types.specs.declared.ids.FieldId.{FieldId}
@@ -12,15 +11,8 @@ use Rattle.jv_types.specs.declared.shapes.MethodShape.{MethodShape}
 use Rattle.jv_types.specs.declared.shapes.Shape.{Shape}
 use Rattle.jv_world.specs.Worlds.{IsNamed, Sub}
 use Rattle.jv_resolve.specs.Members.{IsPublic, IsPrivate, IsProtected, IsPackagePrivate, IsStatic, IsMethod, IsField}
+use Rattle.jv_resolve.specs.Packages.{AreInOnePackage}
 use Rattle.jv_resolve.specs.References.{named_class, IsArray}
-
--- the package of a class, by its name: the name up to the last `/`
-abbrev pub package_of : List ℕ → List ℕ
-package_of name = before_last (λ b. b == 47) name
-
--- two classes of one package (JVMS 5.3)
-abbrev pub InOnePackage : List Shape → ℕ → ℕ → Type 0
-InOnePackage w c d = (s : Shape) × (t : Shape) × (slice_get w c ≡ Some s) × (slice_get w d ≡ Some t) × (package_of s.name ≡ package_of t.name)
 
 -- the name is that of the class c, or of a subclass or a superclass of it
 abbrev pub IsInLine : List Shape → ℕ → List ℕ → Type 0
@@ -31,7 +23,7 @@ IsInLine w c name = (d : ℕ) × IsNamed w d name × (Sub w c d ⊎ Sub w d c)
 -- reference names has to be in line with `from`. A reference to an array names no class.
 abbrev pub IsProtectedAccess : List Shape → ℕ → Option (List ℕ) → ℕ → Access → Type 0
 IsProtectedAccess w from named declarer flags =
-    InOnePackage w from declarer
+    AreInOnePackage w from declarer
     ⊎ (Sub w from declarer × (IsStatic flags ⊎ ((name : List ℕ) × (named ≡ Some name) × IsInLine w from name)))
 
 -- A member of the class `declarer` with these flags is accessible from the class `from`, by a reference that
@@ -40,7 +32,7 @@ abbrev pub HasAccess : List Shape → ℕ → Option (List ℕ) → ℕ → Acce
 HasAccess w from named declarer flags =
     IsPublic flags
     ⊎ (IsProtected flags × IsProtectedAccess w from named declarer flags)
-    ⊎ (IsPackagePrivate flags × InOnePackage w from declarer)
+    ⊎ (IsPackagePrivate flags × AreInOnePackage w from declarer)
     ⊎ (IsPrivate flags × (from ≡ declarer))
 
 -- the field is accessible from the class `from` by the reference

@@ -28,12 +28,13 @@ HasNone w P c = (n : ℕ) (m : MethodId) → Climbs w n c m.class.number → ¬ 
 
 -- ---- among the superinterfaces (JVMS 5.4.3.3)
 
--- a method of this name and descriptor of a superinterface of the class c that is neither private nor static
-pub record IsSuperinterfaceMethod (w : List Shape) (c : ℕ) (name : List ℕ) (desc : MethodDesc) (m : MethodId) : Type 0 where
-  pub super : ProperSub w c m.class.number
-  pub interface : IsInterfaceClass w m.class.number
-  pub declared : DeclaresMethod w name desc m
-  pub inheritable : IsInheritable w m
+-- a method of this name and descriptor of an interface that is neither private nor static
+abbrev pub IsInterfaceMethod : List Shape → List ℕ → MethodDesc → MethodId → Type 0
+IsInterfaceMethod w name desc m = DeclaresMethod w name desc m × IsInheritable w m × IsInterfaceClass w m.class.number
+
+-- such a one of a superinterface of the class c
+abbrev pub IsSuperinterfaceMethod : List Shape → ℕ → List ℕ → MethodDesc → MethodId → Type 0
+IsSuperinterfaceMethod w c name desc m = ProperSub w c m.class.number × IsInterfaceMethod w name desc m
 
 -- no proper subinterface among the superinterfaces has such a one
 pub record IsMaximallySpecific (w : List Shape) (c : ℕ) (name : List ℕ) (desc : MethodDesc) (m : MethodId) : Type 0 where

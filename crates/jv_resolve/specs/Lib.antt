@@ -1,6 +1,8 @@
+pub mod Places
 pub mod Members
 pub mod Inheriting
 pub mod DepthFirst
+pub mod Packages
 pub mod References
 pub mod Access
 pub mod Overriding

@@ -51,6 +51,10 @@ IsField w f x = (s : Shape) × (slice_get w f.class.number ≡ Some s) × (slice
 abbrev pub HasMethod : List Shape → MethodId → Type 0
 HasMethod w m = (x : MethodShape) × IsMethod w m x
 
+-- the world has this field
+abbrev pub HasField : List Shape → FieldId → Type 0
+HasField w f = (x : FieldShape) × IsField w f x
+
 -- an instance method that is not private
 abbrev pub IsInheritable : List Shape → MethodId → Type 0
 IsInheritable w m = (x : MethodShape) × IsMethod w m x × ¬ IsPrivate x.flags × ¬ IsStatic x.flags

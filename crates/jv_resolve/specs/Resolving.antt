@@ -10,15 +10,15 @@ use Rattle.jv_types.specs.declared.shapes.MethodShape.{MethodShape}
 use Rattle.jv_types.specs.declared.shapes.Shape.{Shape}
 use Rattle.jv_world.specs.Worlds.{IsNamed, object_name}
 use Rattle.jv_resolve.specs.Members.{IsPublic, IsStatic, IsInterfaceClass, IsInheritable, IsMethod, init_name, DeclaresField, DeclaresMethod}
-use Rattle.jv_resolve.specs.Inheriting.{IsNearest, HasNone, IsSingleDefault, HasNoSingleDefault}
+use Rattle.jv_resolve.specs.Inheriting.{IsInterfaceMethod, IsNearest, HasNone, IsSingleDefault, HasNoSingleDefault}
 use Rattle.jv_resolve.specs.DepthFirst.{IsFirst}
 use Rattle.jv_resolve.specs.References.{named_class, BeginsAt, NamesInterface}
 
 -- ---- fields
 
 -- the class declares the field
-abbrev pub HasField : List Shape → List ℕ → Desc → ℕ → Type 0
-HasField w name desc c = (f : FieldId) × DeclaresField w name desc f × (f.class.number ≡ c)
+abbrev pub DeclaresFieldIn : List Shape → List ℕ → Desc → ℕ → Type 0
+DeclaresFieldIn w name desc c = (f : FieldId) × DeclaresField w name desc f × (f.class.number ≡ c)
 
 -- A field is looked for in the class that the reference names, then in its superinterfaces recursively, then in
 -- its superclass recursively.
@@ -26,21 +26,20 @@ pub record ResolvesField (w : List Shape) (r : FieldRef) (f : FieldId) : Type 0 
   pub named : ℕ
   pub name : IsNamed w named r.class
   pub declared : DeclaresField w r.name r.desc f
-  pub first : IsFirst w (HasField w r.name r.desc) named f.class.number
+  pub first : IsFirst w (DeclaresFieldIn w r.name r.desc) named f.class.number
 
 -- ---- methods
 
--- the interface declares the method, which is neither private nor static
-abbrev pub HasInterfaceMethod : List Shape → List ℕ → MethodDesc → ℕ → Type 0
-HasInterfaceMethod w name desc c =
-    (m : MethodId) × DeclaresMethod w name desc m × IsInheritable w m × IsInterfaceClass w m.class.number × (m.class.number ≡ c)
+-- the class is an interface that declares such a method, neither private nor static
+abbrev pub DeclaresInterfaceMethodIn : List Shape → List ℕ → MethodDesc → ℕ → Type 0
+DeclaresInterfaceMethodIn w name desc c = (m : MethodId) × IsInterfaceMethod w name desc m × (m.class.number ≡ c)
 
 -- Above the class c: the single non-abstract one among the maximally specific superinterface methods; otherwise
 -- the first superinterface method, depth first, that is neither private nor static.
 pub record ResolvesAbove (w : List Shape) (c : ℕ) (name : List ℕ) (desc : MethodDesc) (m : MethodId) : Type 0 where
   pub declared : DeclaresMethod w name desc m
   pub found : IsSingleDefault w c name desc m
-      ⊎ (HasNoSingleDefault w c name desc × IsFirst w (HasInterfaceMethod w name desc) c m.class.number)
+      ⊎ (HasNoSingleDefault w c name desc × IsFirst w (DeclaresInterfaceMethodIn w name desc) c m.class.number)
 
 -- In the class c and its superclasses; otherwise among the superinterfaces.
 abbrev pub ResolvesInClass : List Shape → ℕ → List ℕ → MethodDesc → MethodId → Type 0

@@ -19,7 +19,7 @@ IsCandidate w name desc m = DeclaresMethod w name desc m × IsInheritable w m
 
 -- such a one that overrides the resolved method
 abbrev pub IsOverrider : List Shape → MethodId → List ℕ → MethodDesc → MethodId → Type 0
-IsOverrider w resolved name desc m = IsCandidate w name desc m × Overrides w m resolved
+IsOverrider w resolved name desc m = DeclaresMethod w name desc m × IsInheritable w m × Overrides w m resolved
 
 -- The nearest one of which P holds, from the class c up its superclasses; where there is none the single
 -- non-abstract maximally specific superinterface method.

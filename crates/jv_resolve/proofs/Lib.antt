@@ -1,0 +1,6 @@
+pub mod Tests
+pub mod PlacesLemmas
+pub mod PackagesLemmas
+pub mod Hierarchy
+pub mod OverridingLemmas
+pub mod MembersLemmas
