@@ -4,3 +4,4 @@ pub mod PackagesLemmas
 pub mod Hierarchy
 pub mod OverridingLemmas
 pub mod MembersLemmas
+pub mod Climbing

@@ -43,11 +43,11 @@ declares_one w name desc m n p q e =
     let p_at : slice_get q.class.methods m.index ≡ Some p.shape = subst (λ (t : Shape). slice_get t.methods m.index ≡ Some p.shape) same p.at_place in
     let q_at : slice_get p.class.methods n.index ≡ Some q.shape = subst (λ (t : Shape). slice_get t.methods n.index ≡ Some q.shape) (sym same) q.at_place in
     elim (cases_lt m.index n.index) [
-      inl l ↦ absurd (q.first m.index p.shape l p_at p.called)
+      | inl l ↦ absurd (q.first m.index p.shape l p_at p.called)
       | inr g ↦ elim (cases_lt n.index m.index) [
-          inl l ↦ absurd (p.first n.index q.shape l q_at q.called)
-          | inr h ↦ method_is m n e (omega arith)
-        ]
+        | inl l ↦ absurd (p.first n.index q.shape l q_at q.called)
+        | inr h ↦ method_is m n e (omega arith)
+      ]
     ]
 
 pub declares_one_field : (w : List Shape) (name : List ℕ) (desc : Desc) (m n : FieldId) → DeclaresField w name desc m → DeclaresField w name desc n
@@ -57,9 +57,12 @@ declares_one_field w name desc m n p q e =
     let p_at : slice_get q.class.fields m.index ≡ Some p.shape = subst (λ (t : Shape). slice_get t.fields m.index ≡ Some p.shape) same p.at_place in
     let q_at : slice_get p.class.fields n.index ≡ Some q.shape = subst (λ (t : Shape). slice_get t.fields n.index ≡ Some q.shape) (sym same) q.at_place in
     elim (cases_lt m.index n.index) [
-      inl l ↦ absurd (q.first m.index p.shape l p_at p.called)
+      | inl l ↦ absurd (q.first m.index p.shape l p_at p.called)
       | inr g ↦ elim (cases_lt n.index m.index) [
-          inl l ↦ absurd (p.first n.index q.shape l q_at q.called)
-          | inr h ↦ field_is m n e (omega arith)
-        ]
+        | inl l ↦ absurd (p.first n.index q.shape l q_at q.called)
+        | inr h ↦ field_is m n e (omega arith)
+      ]
     ]
+
+pub declared_here : (w : List Shape) (name : List ℕ) (desc : MethodDesc) (m : MethodId) → DeclaresMethod w name desc m → HasMethod w m
+declared_here w name desc m d = (d.shape, (d.class, d.of_class, d.at_place))

@@ -31,8 +31,8 @@ joined w a b c p q open_to = record {
   other_place = q.other_place;
   sub = sub_trans w a.class.number b.class.number c.class.number p.sub q.sub;
   called =
-    let e : p.other ≡ q.shape = one_method w b p.other q.shape p.other_place q.place in
-    (p.called.0 ∙ ap (λ (x : MethodShape). x.name) e ∙ q.called.0, p.called.1 ∙ ap (λ (x : MethodShape). x.desc) e ∙ q.called.1);
+      let e : p.other ≡ q.shape = one_method w b p.other q.shape p.other_place q.place in
+      (p.called.0 ∙ ap (λ (x : MethodShape). x.name) e ∙ q.called.0, p.called.1 ∙ ap (λ (x : MethodShape). x.desc) e ∙ q.called.1);
   not_private = p.not_private;
   not_static = p.not_static;
   other_not_private = q.other_not_private;

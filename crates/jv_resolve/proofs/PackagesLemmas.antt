@@ -14,7 +14,6 @@ or_true : (b : Bool) → (b || true) ≡ true
 or_true true = refl
 or_true false = refl
 
-
 any_slash : (xs : List ℕ) (b : ℕ) → is_slash b ≡ true → list_any is_slash (xs ++ b ∷ []) ≡ true
 any_slash [] b e = ap (λ z. z || false) e
 any_slash (x ∷ xs) b e = ap (λ z. is_slash x || z) (any_slash xs b e) ∙ or_true (is_slash x)

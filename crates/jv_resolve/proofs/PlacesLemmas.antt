@@ -13,12 +13,12 @@ read_at xs i x lt is = slice_get_read xs (length xs) i x refl lt is
 pub none_more : {X : Type 0} (P : X → Type 0) (xs : List X) (i : ℕ) (x : X) → slice_get xs i ≡ Some x → (P x → ⊥) → NoneBelow P xs i → NoneBelow P xs (i + 1)
 none_more {X} P xs i x at fails before k y below got holds =
     elim (cases_lt k i) [
-      inl l ↦ before k y l got holds
+      | inl l ↦ before k y l got holds
       | inr g ↦
-        let here : k ≡ i = omega arith in
-        let same : Some y ≡ Some x = sym got ∙ ap (slice_get xs) here ∙ at in
-        let y_is : y ≡ x = cc in
-        fails (subst P y_is holds)
+          let here : k ≡ i = omega arith in
+          let same : Some y ≡ Some x = sym got ∙ ap (slice_get xs) here ∙ at in
+          let y_is : y ≡ x = cc in
+          fails (subst P y_is holds)
     ]
 
 pub none_all : {X : Type 0} (P : X → Type 0) (xs : List X) (i : ℕ) → length xs ≤ i → NoneBelow P xs i → NoneIn P xs

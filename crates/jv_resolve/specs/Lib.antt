@@ -8,3 +8,5 @@ pub mod Access
 pub mod Overriding
 pub mod Resolving
 pub mod Selecting
+pub mod Wanted
+pub mod Among

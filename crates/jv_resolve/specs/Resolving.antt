@@ -62,8 +62,8 @@ abbrev pub ResolvesInInterface : List Shape → ℕ → List ℕ → MethodDesc 
 ResolvesInInterface w c name desc m =
     DeclaresIn w c name desc m
     ⊎ (((other : MethodId) → ¬ DeclaresIn w c name desc other)
-        × (IsObjectMethod w name desc m
-            ⊎ (((other : MethodId) → ¬ IsObjectMethod w name desc other) × ResolvesAbove w c name desc m)))
+    × (IsObjectMethod w name desc m
+    ⊎ (((other : MethodId) → ¬ IsObjectMethod w name desc other) × ResolvesAbove w c name desc m)))
 
 -- An instance initialization method is found only where the class that the reference names declares it itself.
 abbrev pub IsInitKept : List Shape → MethodRef → MethodId → Type 0

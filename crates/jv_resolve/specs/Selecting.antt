@@ -57,10 +57,13 @@ abbrev pub SpecialStart : List Shape → ℕ → MethodRef → MethodShape → �
 SpecialStart w from r shape start =
     (IsSuperCall w from r shape × HasSuperclass w from start) ⊎ (¬ IsSuperCall w from r shape × BeginsAt w r.class start)
 
--- declared with this name and descriptor, not static, and not private unless it is the resolved method itself
+-- not static, and not private unless it is the resolved method itself
+abbrev pub IsSpecial : List Shape → MethodId → MethodId → Type 0
+IsSpecial w resolved m = (x : MethodShape) × IsMethod w m x × ¬ IsStatic x.flags × (¬ IsPrivate x.flags ⊎ (m ≡ resolved))
+
+-- such a one with this name and descriptor
 abbrev pub IsSpecialCandidate : List Shape → MethodId → List ℕ → MethodDesc → MethodId → Type 0
-IsSpecialCandidate w resolved name desc m =
-    DeclaresMethod w name desc m × (x : MethodShape) × IsMethod w m x × ¬ IsStatic x.flags × (¬ IsPrivate x.flags ⊎ (m ≡ resolved))
+IsSpecialCandidate w resolved name desc m = DeclaresMethod w name desc m × IsSpecial w resolved m
 
 -- In an interface: its own one; otherwise a public instance method of Object; otherwise the single non-abstract
 -- maximally specific superinterface method.
@@ -68,8 +71,8 @@ abbrev pub SelectsInInterface : List Shape → MethodId → List ℕ → MethodD
 SelectsInInterface w resolved name desc start m =
     (IsSpecialCandidate w resolved name desc m × (m.class.number ≡ start))
     ⊎ (((other : MethodId) → IsSpecialCandidate w resolved name desc other → ¬ (other.class.number ≡ start))
-        × (IsObjectMethod w name desc m
-            ⊎ (((other : MethodId) → ¬ IsObjectMethod w name desc other) × IsSingleDefault w start name desc m)))
+    × (IsObjectMethod w name desc m
+    ⊎ (((other : MethodId) → ¬ IsObjectMethod w name desc other) × IsSingleDefault w start name desc m)))
 
 -- invokespecial of the resolved method in the class `from`, by the reference, runs m
 pub record SelectsSpecial (w : List Shape) (from : ℕ) (r : MethodRef) (resolved m : MethodId) : Type 0 where

@@ -3,5 +3,7 @@
 
 mod flags;
 mod members;
-mod packages;
+mod nearest;
 mod overriding;
+mod packages;
+mod superinterfaces;

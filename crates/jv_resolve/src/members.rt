@@ -82,7 +82,12 @@ fn field_place(fields: &[FieldShape], name: &Name, desc: &Desc) -> Option<usize>
 }
 
 /// The method that the class declares with this name and descriptor, if it declares one.
-pub fn declared_method(world: &World, c: ClassId, name: &Name, desc: &MethodDesc) -> Option<MethodId>
+pub fn declared_method(
+    world: &World,
+    c: ClassId,
+    name: &Name,
+    desc: &MethodDesc,
+) -> Option<MethodId>
     requires { c.number < length world.now }
     ensures found { IfSome result (λ m. (m.class ≡ c) × DeclaresMethod world.now name.now desc.now m) }
     ensures none { IfNone result ((m : MethodId) → m.class.number ≡ c.number → ¬ DeclaresMethod world.now name.now desc.now m) }

@@ -13,10 +13,10 @@ pub loop-index-preserved : goal.loop-index-preserved
 loop-index-preserved c = λ m ec lt p q.
     let middle : MethodId = record { class = c.args.c; index = c.loop-index.index } in
     elim (cases_lt m.index c.loop-index.index) [
-      inl l ↦ c.loop-index.invariant m ec l p q
+      | inl l ↦ c.loop-index.invariant m ec l p q
       | inr g ↦
-        let e : m ≡ middle = method_is m middle ec (omega arith) in
-        denied c.is_middle.result c.if-is_middle.false c.is_middle.ensures.1 (subst (λ (x : MethodId). OverridesDirectly c.args.world.now c.args.a x) e p, subst (λ (x : MethodId). OverridesDirectly c.args.world.now x c.args.b) e q)
+          let e : m ≡ middle = method_is m middle ec (omega arith) in
+          denied c.is_middle.result c.if-is_middle.false c.is_middle.ensures.1 (subst (λ (x : MethodId). OverridesDirectly c.args.world.now c.args.a x) e p, subst (λ (x : MethodId). OverridesDirectly c.args.world.now x c.args.b) e q)
     ]
 
 pub returns : goal.returns

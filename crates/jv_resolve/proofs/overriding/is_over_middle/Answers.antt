@@ -30,7 +30,7 @@ loop-c-preserved c =
 
 pub returns : goal.returns
 returns c = never (HasMiddleAbove c.args.world.now c.args.a c.args.b) (λ h. elim (sub_cases c.args.world.now c.args.a.class.number h.0.class.number h.1.sub) [
-      inl e ↦ denied c.has_middle.result c.if-has_middle.false c.has_middle.ensures.1 (h.0, sym e, h.1, h.2)
-      | inr p ↦ none_among (λ (d : ClassId). HasMiddle c.args.world.now c.args.a c.args.b d.number) c.proper_supers-c-items.result.now c.loop-c.c-index h.0.class
-        c.loop-c-test.false c.loop-c.invariant (c.proper_supers-c-items.ensures.exact.all h.0.class p) (h.0, refl, h.1, h.2)
-    ])
+  | inl e ↦ denied c.has_middle.result c.if-has_middle.false c.has_middle.ensures.1 (h.0, sym e, h.1, h.2)
+  | inr p ↦ none_among (λ (d : ClassId). HasMiddle c.args.world.now c.args.a c.args.b d.number) c.proper_supers-c-items.result.now c.loop-c.c-index h.0.class
+      c.loop-c-test.false c.loop-c.invariant (c.proper_supers-c-items.ensures.exact.all h.0.class p) (h.0, refl, h.1, h.2)
+])

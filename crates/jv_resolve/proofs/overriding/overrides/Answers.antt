@@ -16,11 +16,11 @@ returns-then-overrides_directly c =
 
 pub returns-then-is_package_private : goal.returns-then-is_package_private
 returns-then-is_package_private c = (
-    λ t. let h = c.is_over_middle.ensures.0 t in
-    through c.args.a h.0 c.args.b (direct c.args.a h.0 h.1) (direct h.0 c.args.b h.2),
-    λ o.
-    let t = short_rest c.args.world.now c.args.a c.args.b o (denied c.is_same.result c.if-is_same.false c.is_same.ensures.1) (denied c.overrides_directly.result c.if-overrides_directly.false c.overrides_directly.ensures.1) in
-    c.is_over_middle.ensures.1 (t.middle, t.first, t.second)
+  λ t. let h = c.is_over_middle.ensures.0 t in
+      through c.args.a h.0 c.args.b (direct c.args.a h.0 h.1) (direct h.0 c.args.b h.2),
+  λ o.
+      let t = short_rest c.args.world.now c.args.a c.args.b o (denied c.is_same.result c.if-is_same.false c.is_same.ensures.1) (denied c.overrides_directly.result c.if-overrides_directly.false c.overrides_directly.ensures.1) in
+      c.is_over_middle.ensures.1 (t.middle, t.first, t.second),
 )
 
 pub returns-else-is_package_private : goal.returns-else-is_package_private

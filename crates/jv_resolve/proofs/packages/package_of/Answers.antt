@@ -9,7 +9,7 @@ pub loop-k-preserved : goal.loop-k-preserved
 loop-k-preserved c =
     let e = c.if-byte-eq47.end in
     elim c.if-byte-eq47.branch [
-      then-byte-eq47 w ↦ record {
+      | then-byte-eq47 w ↦ record {
         end_within = omega arith;
         so_far = package_more_slash c.args.name.now c.loop-k.k c.loop-k-test.true w.if-byte-eq47.true ∙ ap (λ n. take n c.args.name.now) (sym w.end-is);
       }
