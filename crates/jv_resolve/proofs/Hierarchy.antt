@@ -1,5 +1,8 @@
 -- Laws of the links of a world.
 use Rattle.std.proofs.Common.{◌≡◌, ℕ, zero, suc, ◌+◌, ◌<◌, ◌≤◌, List, Some, length, subst, sym, ◌∙◌, ap, arith, ◌⊎◌, inl, inr, refl}
+use Rattle.std.specs.Prelude.{IsTrue, ◌↔◌, not, true, nat_eq}
+use Rattle.std.proofs.Common.{eq-eqb}
+use Rattle.std.proofs.lemmas.Bool.{ne_eqb}
 use Rattle.std.specs.List.{slice_get}
 use Rattle.std.proofs.lemmas.Option.{slice_get_within}
 use Rattle.jv_types.specs.declared.shapes.Shape.{Shape}
@@ -89,3 +92,13 @@ climbs_past w world (suc m) zero c d e p q lt = absurd (omega arith)
 climbs_past w world (suc m) (suc n) c d e p q lt =
     let lower : m < n = omega arith in
     climbs_past w world m n p.0 d e p.2 (subst (λ (x : ℕ). Climbs w n x e) (one_superclass w c q.0 p.0 world q.1 p.1) q.2) lower
+
+-- a subtype that is another class is a proper one
+pub below_exactly : (w : List Shape) (c d : ℕ) → IsWorld w → Sub w c d → IsTrue (not (nat_eq c d)) ↔ ProperSub w c d
+below_exactly w c d world s = (
+  λ t. elim (sub_cases w c d s) [
+    | inl e ↦ absurd (let y : nat_eq c d ≡ true = eq-eqb c d e in let f : not true ≡ true = ap not (sym y) ∙ t in cc)
+    | inr p ↦ p
+  ],
+  λ p. ap not (ne_eqb c d (not_below_itself w world c d p)),
+)

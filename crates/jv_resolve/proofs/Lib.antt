@@ -5,3 +5,6 @@ pub mod Hierarchy
 pub mod OverridingLemmas
 pub mod MembersLemmas
 pub mod Climbing
+pub mod SuperinterfaceLemmas
+pub mod Going
+pub mod AboveLemmas

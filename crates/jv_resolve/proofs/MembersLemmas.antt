@@ -10,7 +10,7 @@ use Rattle.jv_types.specs.declared.ids.FieldId.{FieldId}
 use Rattle.jv_types.specs.declared.ids.MethodId.{MethodId}
 use Rattle.jv_types.specs.declared.shapes.MethodShape.{MethodShape}
 use Rattle.jv_types.specs.declared.shapes.Shape.{Shape}
-use Rattle.jv_resolve.specs.Members.{IsMethod, HasMethod, IsMethodCalled, IsFieldCalled, DeclaresMethod, DeclaresField}
+use Rattle.jv_resolve.specs.Members.{IsMethod, HasMethod, IsAbstract, IsConcrete, IsMethodCalled, IsFieldCalled, DeclaresMethod, DeclaresField}
 use Rattle.jv_resolve.proofs.Hierarchy.{one_shape}
 
 pub class_is : (c d : ClassId) → c.number ≡ d.number → c ≡ d
@@ -66,3 +66,23 @@ declares_one_field w name desc m n p q e =
 
 pub declared_here : (w : List Shape) (name : List ℕ) (desc : MethodDesc) (m : MethodId) → DeclaresMethod w name desc m → HasMethod w m
 declared_here w name desc m d = (d.shape, (d.class, d.of_class, d.at_place))
+
+-- one method has one shape
+pub one_method : (w : List Shape) (m : MethodId) (x y : MethodShape) → IsMethod w m x → IsMethod w m y → x ≡ y
+one_method w m x y p q =
+    let shapes : p.0 ≡ q.0 = one_shape w m.class.number p.0 q.0 p.1 q.1 in
+    let e : Some x ≡ Some y = sym p.2 ∙ ap (λ (s : Shape). slice_get s.methods m.index) shapes ∙ q.2 in
+    cc
+
+-- what stands past the end of a list of methods
+abbrev pub no_method : MethodId
+no_method = record { class = record { number = 0 }; index = 0 }
+
+abbrev pub no_class : ClassId
+no_class = record { number = 0 }
+
+pub concrete_from : (w : List Shape) (m : MethodId) (x : MethodShape) → IsMethod w m x → (IsAbstract x.flags → ⊥) → IsConcrete w m
+concrete_from w m x at p = (x, at, p)
+
+pub concrete_at : (w : List Shape) (m : MethodId) (x : MethodShape) → IsMethod w m x → IsConcrete w m → IsAbstract x.flags → ⊥
+concrete_at w m x at p q = p.2 (subst (λ (y : MethodShape). IsAbstract y.flags) (one_method w m x p.0 at p.1) q)

@@ -9,13 +9,7 @@ use Rattle.jv_resolve.specs.Members.{IsMethod, IsPackagePrivate, IsPublic, IsPro
 use Rattle.jv_resolve.specs.Packages.{package_of, AreInOnePackage}
 use Rattle.jv_resolve.specs.Overriding.{IsOpenTo, OverridesDirectly, Overrides, same, direct, through}
 use Rattle.jv_resolve.proofs.Hierarchy.{one_shape, sub_trans}
-
--- one method has one shape
-pub one_method : (w : List Shape) (m : MethodId) (x y : MethodShape) → IsMethod w m x → IsMethod w m y → x ≡ y
-one_method w m x y p q =
-    let shapes : p.0 ≡ q.0 = one_shape w m.class.number p.0 q.0 p.1 q.1 in
-    let e : Some x ≡ Some y = sym p.2 ∙ ap (λ (s : Shape). slice_get s.methods m.index) shapes ∙ q.2 in
-    cc
+use Rattle.jv_resolve.proofs.MembersLemmas.{one_method}
 
 package_trans : (w : List Shape) (a b c : ℕ) → AreInOnePackage w a b → AreInOnePackage w b c → AreInOnePackage w a c
 package_trans w a b c p q =

@@ -12,16 +12,22 @@ direct_supers s = s.interfaces ++ option_to_list s.parent
 abbrev pub Leads : List Shape → (ℕ → Type 0) → ℕ → Type 0
 Leads w P d = (e : ℕ) × Sub w d e × P e
 
--- d is the first of the direct supers of c that leads to such a class
-pub record IsFirstWay (w : List Shape) (P : ℕ → Type 0) (c d : ℕ) : Type 0 where
-  pub shape : Shape
-  pub of_class : slice_get w c ≡ Some shape
+-- no class of these names leads to such a one
+abbrev pub NoneLeads : List Shape → (ℕ → Type 0) → List (List ℕ) → Type 0
+NoneLeads w P names = (k : ℕ) (name : List ℕ) (d : ℕ) → slice_get names k ≡ Some name → IsNamed w d name → ¬ Leads w P d
+
+-- d is the class of the first of the names that leads to such a one
+pub record IsFirstLeading (w : List Shape) (P : ℕ → Type 0) (names : List (List ℕ)) (d : ℕ) : Type 0 where
   pub place : ℕ
   pub name : List ℕ
-  pub at_place : slice_get (direct_supers shape) place ≡ Some name
+  pub at_place : slice_get names place ≡ Some name
   pub named : IsNamed w d name
   pub leads : Leads w P d
-  pub before : (k : ℕ) (other : List ℕ) (e : ℕ) → k < place → slice_get (direct_supers shape) k ≡ Some other → IsNamed w e other → ¬ Leads w P e
+  pub before : (k : ℕ) (other : List ℕ) (e : ℕ) → k < place → slice_get names k ≡ Some other → IsNamed w e other → ¬ Leads w P e
+
+-- d is the first of the direct supers of c that leads to such a one
+abbrev pub IsFirstWay : List Shape → (ℕ → Type 0) → ℕ → ℕ → Type 0
+IsFirstWay w P c d = (shape : Shape) × (slice_get w c ≡ Some shape) × IsFirstLeading w P (direct_supers shape) d
 
 -- A search depth first from the class c ends at the class d: a class comes before its supers, its superinterfaces
 -- and all that is above them come in the order of the file, and its superclass with all above it comes last.

@@ -10,3 +10,4 @@ pub mod Resolving
 pub mod Selecting
 pub mod Wanted
 pub mod Among
+pub mod Targets

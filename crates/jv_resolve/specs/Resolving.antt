@@ -10,7 +10,7 @@ use Rattle.jv_types.specs.declared.shapes.MethodShape.{MethodShape}
 use Rattle.jv_types.specs.declared.shapes.Shape.{Shape}
 use Rattle.jv_world.specs.Worlds.{IsNamed, object_name}
 use Rattle.jv_resolve.specs.Members.{IsPublic, IsStatic, IsInterfaceClass, IsInheritable, IsMethod, init_name, DeclaresField, DeclaresMethod}
-use Rattle.jv_resolve.specs.Inheriting.{IsInterfaceMethod, IsNearest, HasNone, IsSingleDefault, HasNoSingleDefault}
+use Rattle.jv_resolve.specs.Inheriting.{IsSuperinterfaceMethod, IsNearest, HasNone, IsSingleDefault, HasNoSingleDefault}
 use Rattle.jv_resolve.specs.DepthFirst.{IsFirst}
 use Rattle.jv_resolve.specs.References.{named_class, BeginsAt, NamesInterface}
 
@@ -30,16 +30,16 @@ pub record ResolvesField (w : List Shape) (r : FieldRef) (f : FieldId) : Type 0 
 
 -- ---- methods
 
--- the class is an interface that declares such a method, neither private nor static
-abbrev pub DeclaresInterfaceMethodIn : List Shape → List ℕ → MethodDesc → ℕ → Type 0
-DeclaresInterfaceMethodIn w name desc c = (m : MethodId) × IsInterfaceMethod w name desc m × (m.class.number ≡ c)
+-- the class d is a superinterface of the class c that declares such a method, neither private nor static
+abbrev pub DeclaresFor : List Shape → ℕ → List ℕ → MethodDesc → ℕ → Type 0
+DeclaresFor w c name desc d = (m : MethodId) × IsSuperinterfaceMethod w c name desc m × (m.class.number ≡ d)
 
 -- Above the class c: the single non-abstract one among the maximally specific superinterface methods; otherwise
 -- the first superinterface method, depth first, that is neither private nor static.
 pub record ResolvesAbove (w : List Shape) (c : ℕ) (name : List ℕ) (desc : MethodDesc) (m : MethodId) : Type 0 where
   pub declared : DeclaresMethod w name desc m
   pub found : IsSingleDefault w c name desc m
-      ⊎ (HasNoSingleDefault w c name desc × IsFirst w (DeclaresInterfaceMethodIn w name desc) c m.class.number)
+      ⊎ (HasNoSingleDefault w c name desc × IsFirst w (DeclaresFor w c name desc) c m.class.number)
 
 -- In the class c and its superclasses; otherwise among the superinterfaces.
 abbrev pub ResolvesInClass : List Shape → ℕ → List ℕ → MethodDesc → MethodId → Type 0
@@ -47,11 +47,14 @@ ResolvesInClass w c name desc m =
     IsNearest w (DeclaresMethod w name desc) c m
     ⊎ (HasNone w (DeclaresMethod w name desc) c × ResolvesAbove w c name desc m)
 
--- a public instance method that Object declares
+-- a public instance method
+abbrev pub IsPublicInstance : List Shape → MethodId → Type 0
+IsPublicInstance w m = (x : MethodShape) × IsMethod w m x × IsPublic x.flags × ¬ IsStatic x.flags
+
+-- such a one that Object declares
 abbrev pub IsObjectMethod : List Shape → List ℕ → MethodDesc → MethodId → Type 0
 IsObjectMethod w name desc m =
-    DeclaresMethod w name desc m × IsNamed w m.class.number object_name
-    × (x : MethodShape) × IsMethod w m x × IsPublic x.flags × ¬ IsStatic x.flags
+    DeclaresMethod w name desc m × IsNamed w m.class.number object_name × IsPublicInstance w m
 
 -- the class c declares the method
 abbrev pub DeclaresIn : List Shape → ℕ → List ℕ → MethodDesc → MethodId → Type 0

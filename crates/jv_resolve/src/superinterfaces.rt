@@ -66,7 +66,10 @@ fn is_below(world: &World, c: ClassId, d: ClassId) -> bool
     requires d_here { d.number < length world.now }
     ensures { IsTrue result ↔ ProperSub world.now c.number d.number }
 {
-    c.number != d.number && world.sub(c, d)
+    if !world.sub(c, d) {
+        return false;
+    }
+    c.number != d.number
 }
 
 /// Whether none of the methods is one of a proper subinterface of a method's interface.
@@ -92,24 +95,56 @@ fn is_default(world: &World, methods: &[MethodId], m: MethodId) -> bool
     !is_abstract(method_shape(world, m).flags) && is_specific(world, methods, m)
 }
 
+/// The first of the methods that is maximally specific and not abstract.
+fn first_default(world: &World, methods: &[MethodId]) -> Option<MethodId>
+    requires { AreHere world.now methods.now }
+    ensures found { IfSome result (λ m. Contains methods.now m × IsDefaultAmong world.now methods.now m) }
+    ensures none { IfNone result ((m : MethodId) → Contains methods.now m → ¬ IsDefaultAmong world.now methods.now m) }
+{
+    for m in methods {
+        if is_default(world, methods, *m) {
+            return Some(*m);
+        }
+    }
+    None
+}
+
+/// Whether a method is maximally specific and not abstract only if it is this one.
+fn agrees(world: &World, methods: &[MethodId], m: MethodId, other: MethodId) -> bool
+    requires methods_here { AreHere world.now methods.now }
+    requires here { HasMethod world.now other }
+    ensures { IsTrue result ↔ (IsDefaultAmong world.now methods.now other → other ≡ m) }
+{
+    if is_same(other, m) {
+        return true;
+    }
+    !is_default(world, methods, other)
+}
+
+/// Whether no method but this one is maximally specific and not abstract.
+fn is_only_default(world: &World, methods: &[MethodId], m: MethodId) -> bool
+    requires { AreHere world.now methods.now }
+    ensures { IsTrue result ↔ ((other : MethodId) → Contains methods.now other → IsDefaultAmong world.now methods.now other → other ≡ m) }
+{
+    for other in methods {
+        if !agrees(world, methods, m, *other) {
+            return false;
+        }
+    }
+    true
+}
+
 /// The single one among the methods that is maximally specific and not abstract.
 pub fn single_default(world: &World, methods: &[MethodId]) -> Option<MethodId>
     requires { AreHere world.now methods.now }
     ensures found { IfSome result (IsSingleAmong world.now methods.now) }
     ensures none { IfNone result ((m : MethodId) → ¬ IsSingleAmong world.now methods.now m) }
 {
-    let mut found: Option<MethodId> = None;
-    for m in methods {
-        if is_default(world, methods, *m) {
-            match found {
-                None => found = Some(*m),
-                Some(other) => {
-                    if !is_same(other, *m) {
-                        return None;
-                    }
-                }
-            }
-        }
+    let Some(m) = first_default(world, methods) else {
+        return None;
+    };
+    if is_only_default(world, methods, m) {
+        return Some(m);
     }
-    found
+    None
 }
