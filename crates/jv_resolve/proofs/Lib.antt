@@ -8,3 +8,7 @@ pub mod Climbing
 pub mod SuperinterfaceLemmas
 pub mod Going
 pub mod AboveLemmas
+pub mod ReferenceLemmas
+pub mod MethodLemmas
+pub mod SelectionLemmas
+pub mod SpecialLemmas

@@ -1,5 +1,5 @@
 -- Access control (JVMS 5.4.4).
-use Rattle.std.specs.Prelude.{◌≡◌, ℕ, ◌⊎◌, List, Option, Some, codes}
+use Rattle.std.specs.Prelude.{◌≡◌, ℕ, ◌⊎◌, List, Some, codes}
 use Rattle.jv_types.specs.declared.access.Access.{Access}
 use Rattle.jv_types.specs.declared.desc.RefType.{RefType}
 use Rattle.jv_types.specs.declared.ids.FieldId.{FieldId}
@@ -18,30 +18,32 @@ use Rattle.jv_resolve.specs.References.{named_class, IsArray}
 abbrev pub IsInLine : List Shape → ℕ → List ℕ → Type 0
 IsInLine w c name = (d : ℕ) × IsNamed w d name × (Sub w c d ⊎ Sub w d c)
 
--- A protected member of the class `declarer` is accessible from the class `from`: where the two are of one
--- package, or `from` is a subclass of the declarer; then for a member that isn't static the class that the
--- reference names has to be in line with `from`. A reference to an array names no class.
-abbrev pub IsProtectedAccess : List Shape → ℕ → Option (List ℕ) → ℕ → Access → Type 0
-IsProtectedAccess w from named declarer flags =
-    AreInOnePackage w from declarer
-    ⊎ (Sub w from declarer × (IsStatic flags ⊎ ((name : List ℕ) × (named ≡ Some name) × IsInLine w from name)))
+-- the type names a class in line with the class c; an array names none
+abbrev pub NamesInLine : List Shape → ℕ → RefType → Type 0
+NamesInLine w c type = (name : List ℕ) × (named_class type ≡ Some name) × IsInLine w c name
 
--- A member of the class `declarer` with these flags is accessible from the class `from`, by a reference that
--- names this class.
-abbrev pub HasAccess : List Shape → ℕ → Option (List ℕ) → ℕ → Access → Type 0
-HasAccess w from named declarer flags =
+-- A protected member of the class `declarer` is accessible from the class `from`: where the two are of one
+-- package, or `from` is a subclass of the declarer; then, for a member that isn't static, the class that the
+-- reference names has to be in line with `from`.
+abbrev pub IsProtectedAccess : List Shape → ℕ → Type 0 → ℕ → Access → Type 0
+IsProtectedAccess w from in_line declarer flags = AreInOnePackage w from declarer ⊎ (Sub w from declarer × (IsStatic flags ⊎ in_line))
+
+-- A member of the class `declarer` with these flags is accessible from the class `from`, by a reference of which
+-- `in_line` says whether it names a class in line with `from`.
+abbrev pub HasAccess : List Shape → ℕ → Type 0 → ℕ → Access → Type 0
+HasAccess w from in_line declarer flags =
     IsPublic flags
-    ⊎ (IsProtected flags × IsProtectedAccess w from named declarer flags)
+    ⊎ (IsProtected flags × IsProtectedAccess w from in_line declarer flags)
     ⊎ (IsPackagePrivate flags × AreInOnePackage w from declarer)
     ⊎ (IsPrivate flags × (from ≡ declarer))
 
 -- the field is accessible from the class `from` by the reference
 abbrev pub IsFieldAccessible : List Shape → ℕ → FieldRef → FieldId → Type 0
-IsFieldAccessible w from r f = (x : FieldShape) × IsField w f x × HasAccess w from (Some r.class) f.class.number x.flags
+IsFieldAccessible w from r f = (x : FieldShape) × IsField w f x × HasAccess w from (IsInLine w from r.class) f.class.number x.flags
 
 -- The method is accessible from the class `from` by the reference. The method `clone` of an array counts as
 -- public (JVMS 10.7).
 abbrev pub IsAccessible : List Shape → ℕ → MethodRef → MethodId → Type 0
 IsAccessible w from r m =
     (IsArray r.class × (r.name ≡ codes "clone"))
-    ⊎ ((x : MethodShape) × IsMethod w m x × HasAccess w from (named_class r.class) m.class.number x.flags)
+    ⊎ ((x : MethodShape) × IsMethod w m x × HasAccess w from (NamesInLine w from r.class) m.class.number x.flags)

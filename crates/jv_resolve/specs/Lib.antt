@@ -11,3 +11,4 @@ pub mod Selecting
 pub mod Wanted
 pub mod Among
 pub mod Targets
+pub mod Refusals

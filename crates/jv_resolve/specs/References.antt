@@ -1,5 +1,5 @@
 -- What a reference names (JVMS 4.4.2).
-use Rattle.std.specs.Prelude.{◌≡◌, ℕ, List, Option, Some, None}
+use Rattle.std.specs.Prelude.{◌≡◌, ℕ, List, Option, Some, None, unwrap_or}
 use Rattle.jv_types.specs.declared.desc.RefType.{RefType, Class, PrimArray, Array', Row_of-RefType}
 use Rattle.jv_types.specs.declared.shapes.Shape.{Shape}
 use Rattle.jv_world.specs.Worlds.{IsNamed, object_name}
@@ -14,15 +14,9 @@ named_class (Array' shape items) = None
 abbrev pub IsArray : RefType → Type 0
 IsArray type = named_class type ≡ None
 
--- the name of the class in which the search for a method begins: for an array it is Object
-abbrev pub searched_name : RefType → List ℕ
-searched_name (Class name) = name
-searched_name (PrimArray prim) = object_name
-searched_name (Array' shape items) = object_name
-
--- the search for a method of a reference to this type begins at the class c
+-- the search for a method of a reference to this type begins at the class c: for an array it is Object
 abbrev pub BeginsAt : List Shape → RefType → ℕ → Type 0
-BeginsAt w type c = IsNamed w c (searched_name type)
+BeginsAt w type c = IsNamed w c (unwrap_or (named_class type) object_name)
 
 -- the type is an interface of the world
 abbrev pub NamesInterface : List Shape → RefType → Type 0

@@ -41,21 +41,21 @@ pub record SelectsInterface (w : List Shape) (c : ℕ) (resolved m : MethodId) :
 
 -- ---- invokespecial
 
+-- d is a superclass of c
+abbrev pub IsSuperclass : List Shape → ℕ → ℕ → Type 0
+IsSuperclass w c d = (more : ℕ) × Climbs w (suc more) c d
+
 -- the reference names a superclass of the class `from`, and the method is no instance initialization method
-pub record IsSuperCall (w : List Shape) (from : ℕ) (r : MethodRef) (shape : MethodShape) : Type 0 where
-  pub name : List ℕ
-  pub names : named_class r.class ≡ Some name
-  pub class : ℕ
-  pub named : IsNamed w class name
-  pub more : ℕ
-  pub above : Climbs w (suc more) from class
-  pub not_init : ¬ (shape.name ≡ init_name)
+abbrev pub IsSuperCall : List Shape → ℕ → MethodRef → List ℕ → Type 0
+IsSuperCall w from r name =
+    ¬ (name ≡ init_name)
+    × (class_name : List ℕ) × (class : ℕ) × (named_class r.class ≡ Some class_name) × IsNamed w class class_name × IsSuperclass w from class
 
 -- the search starts at the direct superclass of `from` where that is so, and otherwise at the type that the
 -- reference names, which is Object for an array
-abbrev pub SpecialStart : List Shape → ℕ → MethodRef → MethodShape → ℕ → Type 0
-SpecialStart w from r shape start =
-    (IsSuperCall w from r shape × HasSuperclass w from start) ⊎ (¬ IsSuperCall w from r shape × BeginsAt w r.class start)
+abbrev pub SpecialStart : List Shape → ℕ → MethodRef → List ℕ → ℕ → Type 0
+SpecialStart w from r name start =
+    (IsSuperCall w from r name × HasSuperclass w from start) ⊎ (¬ IsSuperCall w from r name × BeginsAt w r.class start)
 
 -- not static, and not private unless it is the resolved method itself
 abbrev pub IsSpecial : List Shape → MethodId → MethodId → Type 0
@@ -67,18 +67,26 @@ IsSpecialCandidate w resolved name desc m = DeclaresMethod w name desc m × IsSp
 
 -- In an interface: its own one; otherwise a public instance method of Object; otherwise the single non-abstract
 -- maximally specific superinterface method.
-abbrev pub SelectsInInterface : List Shape → MethodId → List ℕ → MethodDesc → ℕ → MethodId → Type 0
-SelectsInInterface w resolved name desc start m =
+abbrev pub FindsInInterface : List Shape → MethodId → List ℕ → MethodDesc → ℕ → MethodId → Type 0
+FindsInInterface w resolved name desc start m =
     (IsSpecialCandidate w resolved name desc m × (m.class.number ≡ start))
-    ⊎ (((other : MethodId) → IsSpecialCandidate w resolved name desc other → ¬ (other.class.number ≡ start))
+    ⊎ (((other : MethodId) → other.class.number ≡ start → ¬ IsSpecialCandidate w resolved name desc other)
     × (IsObjectMethod w name desc m
     ⊎ (((other : MethodId) → ¬ IsObjectMethod w name desc other) × IsSingleDefault w start name desc m)))
+
+abbrev pub SelectsInInterface : List Shape → MethodId → List ℕ → MethodDesc → ℕ → MethodId → Type 0
+SelectsInInterface w resolved name desc start m = FindsInInterface w resolved name desc start m × IsConcrete w m
+
+-- from the class or interface at which the search starts
+abbrev pub SelectsFrom : List Shape → MethodId → List ℕ → MethodDesc → ℕ → MethodId → Type 0
+SelectsFrom w resolved name desc start m =
+    (¬ IsInterfaceClass w start × SelectsBy w (IsSpecialCandidate w resolved name desc) start name desc m)
+    ⊎ (IsInterfaceClass w start × SelectsInInterface w resolved name desc start m)
 
 -- invokespecial of the resolved method in the class `from`, by the reference, runs m
 pub record SelectsSpecial (w : List Shape) (from : ℕ) (r : MethodRef) (resolved m : MethodId) : Type 0 where
   pub shape : MethodShape
   pub place : IsMethod w resolved shape
   pub start : ℕ
-  pub starts : SpecialStart w from r shape start
-  pub found : (¬ IsInterfaceClass w start × SelectsBy w (IsSpecialCandidate w resolved shape.name shape.desc) start shape.name shape.desc m)
-      ⊎ (IsInterfaceClass w start × SelectsInInterface w resolved shape.name shape.desc start m × IsConcrete w m)
+  pub starts : SpecialStart w from r shape.name start
+  pub selects : SelectsFrom w resolved shape.name shape.desc start m

@@ -1,5 +1,6 @@
 ghost use Rattle.std.specs.Prelude.{◌≡◌, ℕ, ◌<◌, ◌↔◌, length, slice_get, Some, IsTrue, IfSome, IfNone};
 ghost use Rattle.jv_resolve.specs.Members.{IsMethodCalled, IsFieldCalled, IsMethod, IsField, HasMethod, HasField, DeclaresMethod, DeclaresField};
+ghost use Rattle.jv_world.specs.Worlds.{IsWorld};
 ghost use Rattle.jv_types.specs.declared.ids.MethodId.{MethodId};
 ghost use Rattle.jv_types.specs.declared.ids.FieldId.{FieldId};
 ghost use Rattle.jv_resolve.specs.Places.{IsFirstPlace, NoneIn};
@@ -91,6 +92,7 @@ pub fn declared_method(
     requires { c.number < length world.now }
     ensures found { IfSome result (λ m. (m.class ≡ c) × DeclaresMethod world.now name.now desc.now m) }
     ensures none { IfNone result ((m : MethodId) → m.class.number ≡ c.number → ¬ DeclaresMethod world.now name.now desc.now m) }
+    ensures world { IsWorld world.now }
 {
     let place = method_place(world.shape(c).methods.as_slice(), name, desc)?;
     Some(MethodId {

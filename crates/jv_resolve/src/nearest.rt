@@ -1,5 +1,6 @@
 ghost use Rattle.std.specs.Prelude.{◌≡◌, ◌<◌, ◌↔◌, length, IsTrue, IfSome, IfNone};
 ghost use Rattle.jv_types.specs.declared.ids.MethodId.{MethodId};
+ghost use Rattle.jv_world.specs.Worlds.{IsWorld};
 ghost use Rattle.jv_resolve.specs.Members.{HasMethod, IsInheritable, DeclaresMethod};
 ghost use Rattle.jv_resolve.specs.Inheriting.{IsNearest, HasNone};
 ghost use Rattle.jv_resolve.specs.Selecting.{IsSpecial};
@@ -67,6 +68,7 @@ pub fn wanted_method(
     requires resolved { HasResolved world.now wanted }
     ensures found { IfSome result (λ m. (m.class ≡ c) × IsWanted world.now name.now desc.now wanted m) }
     ensures none { IfNone result ((m : MethodId) → m.class.number ≡ c.number → ¬ IsWanted world.now name.now desc.now wanted m) }
+    ensures world { IsWorld world.now }
 {
     let Some(m) = declared_method(world, c, name, desc) else {
         return None;
@@ -89,6 +91,7 @@ pub fn nearest(
     requires resolved { HasResolved world.now wanted }
     ensures found { IfSome result (IsNearest world.now (IsWanted world.now name.now desc.now wanted) c.number) }
     ensures none { IfNone result (HasNone world.now (IsWanted world.now name.now desc.now wanted) c.number) }
+    ensures world { IsWorld world.now }
 {
     let mut class = c;
     let count = world.shapes().len();

@@ -18,8 +18,8 @@ pub returns-in_default-clause-none : goal.returns-in_default-clause-none
 returns-in_default-clause-none c = λ leads.
     let exact = subst (AreSuperinterfaceMethods c.args.world.now c.args.c.number c.args.name.now c.args.desc.now) (sym c.as_slice.ensures.value) c.in_ok-methods.ensures in
     c.in_default.ensures.none (leads_same c.args.world.now (DeclaresFor c.args.world.now c.args.c.number c.args.name.now c.args.desc.now) (IsTarget c.as_slice-2.result.now)
-        (λ e p. subst (λ (ts : List ClassId). IsTarget ts e) (sym (c.as_slice-2.ensures.value ∙ c.in_ok-targets.ensures)) (declares_target c.args.world.now c.args.c.number c.args.name.now c.args.desc.now c.as_slice.result.now exact e p))
-        c.args.c.number leads)
+    (λ e p. subst (λ (ts : List ClassId). IsTarget ts e) (sym (c.as_slice-2.ensures.value ∙ c.in_ok-targets.ensures)) (declares_target c.args.world.now c.args.c.number c.args.name.now c.args.desc.now c.as_slice.result.now exact e p))
+    c.args.c.number leads)
 
 pub interface_method_of-requires : goal.interface_method_of-requires
 interface_method_of-requires c =
@@ -43,6 +43,7 @@ returns-clause-found c =
     let first = first_same c.args.world.now (IsTarget c.as_slice-2.result.now) P
     (λ e p. target_declares c.args.world.now c.args.c.number c.args.name.now c.args.desc.now c.as_slice.result.now exact e (subst (λ (ts : List ClassId). IsTarget ts e) (c.as_slice-2.ensures.value ∙ c.in_ok-targets.ensures) p))
     (λ e p. subst (λ (ts : List ClassId). IsTarget ts e) (sym (c.as_slice-2.ensures.value ∙ c.in_ok-targets.ensures)) (declares_target c.args.world.now c.args.c.number c.args.name.now c.args.desc.now c.as_slice.result.now exact e p))
-    c.args.c.number c.in-Some.d.number c.in-Some.ensures.found in
-    (c.in-Some-interface_method_of.ensures.found.1.0,
-        subst (λ (d : ClassId). IsFirst c.args.world.now P c.args.c.number d.number) (sym c.in-Some-interface_method_of.ensures.found.0) first)
+    c.args.c.number c.in-Some.d.number c.in-Some.ensures.found in (
+      c.in-Some-interface_method_of.ensures.found.1.0,
+      subst (λ (d : ClassId). IsFirst c.args.world.now P c.args.c.number d.number) (sym c.in-Some-interface_method_of.ensures.found.0) first,
+    )

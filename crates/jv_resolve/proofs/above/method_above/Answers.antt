@@ -13,5 +13,5 @@ returns-clause-none c =
     ok_none c.first_above.result (Leads c.args.world.now (DeclaresFor c.args.world.now c.args.c.number c.args.name.now c.args.desc.now) c.args.c.number → ⊥)
     ((m : MethodId) → ResolvesAbove c.args.world.now c.args.c.number c.args.name.now c.args.desc.now m → ⊥)
     (nothing_above c.args.world.now c.args.c.number c.args.name.now c.args.desc.now
-        (none_at c.in_ok-m.field-0 (HasNoSingleDefault c.args.world.now c.args.c.number c.args.name.now c.args.desc.now) c.in_default.is c.in_ok-m.ensures.none))
+    (none_at c.in_ok-m.field-0 (HasNoSingleDefault c.args.world.now c.args.c.number c.args.name.now c.args.desc.now) c.in_default.is c.in_ok-m.ensures.none))
     c.first_above.ensures.none
