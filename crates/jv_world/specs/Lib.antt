@@ -1,3 +1,7 @@
 pub mod Worlds
+pub mod Building
+pub mod Causes
 pub mod Instances
 pub mod Refusals
+pub mod Kept
+pub mod Ranks

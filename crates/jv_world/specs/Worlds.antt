@@ -74,10 +74,14 @@ pub record HasRightSupers (w : List Shape) (shape : Shape) : Type 0 where
 abbrev pub HasWrongSuper : List Shape → List ℕ → Type 0
 HasWrongSuper w name = (shape : Shape) × Contains w shape × (shape.name ≡ name) × ¬ HasRightSupers w shape
 
+-- no two classes have one name
+abbrev pub HaveDistinctNames : List Shape → Type 0
+HaveDistinctNames w = (c d : ℕ) (name : List ℕ) → IsNamed w c name → IsNamed w d name → c ≡ d
+
 -- What a list of shapes needs so that numbers of 32 bits name its classes and numbers of 16 bits their
 -- members.
 pub record AreNumbered (w : List Shape) : Type 0 where
-  pub distinct : (c d : ℕ) (name : List ℕ) → IsNamed w c name → IsNamed w d name → c ≡ d
+  pub distinct : HaveDistinctNames w
   pub count : length w < 2 ^ 32
   pub fields : (shape : Shape) → Contains w shape → length shape.fields < 2 ^ 16
   pub methods : (shape : Shape) → Contains w shape → length shape.methods < 2 ^ 16

@@ -1,6 +1,5 @@
 ghost use Rattle.std.specs.Prelude.{◌↔◌, IsTrue};
-ghost use Rattle.jv_world.specs.Worlds.{IsWorld};
-ghost use Rattle.jv_world.specs.Instances.{IsInstance, IsArraySuper, IsSubNamed};
+ghost use Rattle.jv_world.specs.Instances.{IsInstance, IsInstanceOfClass, IsArraySuper, IsSubNamed};
 
 use crate::world::World;
 use jv_types::{Name, RefType};
@@ -26,24 +25,38 @@ impl World {
         }
         match (self.class(name), self.class(of)) {
             (Some(class), Some(other)) => self.sub(class, other),
-            _ => false,
+            (Some(_), None) => false,
+            (None, Some(_)) => false,
+            (None, None) => false,
         }
     }
 
-    /// Whether each object of the type `t` is an instance of `of` (JVMS 4.10.1.2, JLS 4.10.3).
+    /// Whether each object of the type `t` is an instance of the class or interface of this name.
+    fn is_instance_of_class(&self, t: &RefType, of: &Name) -> bool
+        ensures { IsTrue result ↔ IsInstanceOfClass self.now t.now of.now }
+    {
+        match t {
+            RefType::Class(name) => self.is_sub_named(name, of),
+            RefType::PrimArray(_) => is_array_super(of),
+            RefType::Array(_) => is_array_super(of),
+        }
+    }
+
+    /// Whether each object of the type `t` is an instance of `of` (JVMS 4.10.1.2, JLS 4.10.3). A class is
+    /// a subtype of itself, also where the world has none of its name.
     pub fn is_instance(&self, t: &RefType, of: &RefType) -> bool
-        ensures exact { IsTrue result ↔ IsInstance self.now t.now of.now }
-        ensures world { IsWorld self.now }
+        ensures { IsTrue result ↔ IsInstance self.now t.now of.now }
     {
         match (t, of) {
-            (RefType::Class(name), RefType::Class(of)) => self.is_sub_named(name, of),
-            (RefType::PrimArray(_), RefType::Class(of)) => is_array_super(of),
-            (RefType::Array(_), RefType::Class(of)) => is_array_super(of),
+            (_, RefType::Class(of)) => self.is_instance_of_class(t, of),
             (RefType::PrimArray(prim), RefType::PrimArray(other)) => prim == other,
             (RefType::Array(item), RefType::Array(other)) => {
                 self.is_instance(item.get(), other.get())
             }
-            _ => false,
+            (RefType::Class(_), RefType::PrimArray(_)) => false,
+            (RefType::Class(_), RefType::Array(_)) => false,
+            (RefType::PrimArray(_), RefType::Array(_)) => false,
+            (RefType::Array(_), RefType::PrimArray(_)) => false,
         }
     }
 }

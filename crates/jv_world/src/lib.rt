@@ -1,9 +1,19 @@
 //! A world of classes and interfaces: names by number, subtypes, and which types are instances of which.
 #![tactic(auto)]
 
+mod causes;
+mod closure;
 mod instance;
+mod links;
+mod lists;
+mod names;
+mod numbered;
 mod refusal;
 mod world;
 
+pub use numbered::are_numbered;
 pub use refusal::HierRefusal;
 pub use world::World;
+
+#[cfg(test)]
+mod tests;

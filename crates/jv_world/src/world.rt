@@ -2,9 +2,13 @@ ghost use Rattle.std.specs.Prelude.{◌≡◌, ℕ, ◌<◌, ◌↔◌, List, So
 ghost use Rattle.jv_world.specs.Worlds.{IsNamed, HasSuperclass, Sub, AreSuperclasses, AreNumbered, AreProperSupers, IsWorld};
 ghost use Rattle.jv_world.specs.Refusals.{HasCause};
 
+use crate::causes::{least_absent, least_circular, least_wrong};
+use crate::closure::all_led;
+use crate::links::links_of;
+use crate::lists::contains;
+use crate::names::Names;
 use crate::refusal::HierRefusal;
-use indexmap::IndexSet;
-use jv_types::{ClassId, Name, Shape};
+use jv_types::{ClassId, Copied, Name, Shape};
 use std::alloc::{AllocError, Global};
 use std::marker::Model;
 
@@ -14,7 +18,7 @@ use std::marker::Model;
 pub struct World {
     shapes: Vec<Shape>,
     /// The names, in the order of the shapes.
-    names: IndexSet<Vec<u8>>,
+    names: Names,
     /// The proper supertypes of each class, least number first.
     supers: Vec<Vec<ClassId>>,
 }
@@ -22,7 +26,7 @@ pub struct World {
 impl Model for World {
     ghost use Rattle.std.specs.Prelude.{List};
     ghost use Rattle.jv_types.specs.declared.shapes.Shape.{Shape};
-    ghost use Rattle.jv_world.specs.Worlds.{IsWorld};
+    ghost use Rattle.jv_world.specs.Kept.{IsKept};
     ghost use Rattle.jv_types.specs.contracts.shapes.Shape as shape;
     ghost use Rattle.std.specs.Coded.{codes};
 
@@ -32,7 +36,7 @@ impl Model for World {
 
     ghost view = { λ w. w.shapes.items };
 
-    ghost invariant = { λ w. IsWorld w.shapes.items };
+    ghost invariant = { λ w. IsKept w.shapes.items w.names w.supers.items };
 }
 
 impl World {
@@ -45,7 +49,23 @@ impl World {
         ensures world { IfOk result IsWorld }
         ensures refused { IfErr result (HasCause shapes.items) }
     {
-        Err(HierRefusal::Memory)
+        let names = Names::of(alloc, shapes.as_slice())?;
+        if let Some(name) = least_absent(shapes.as_slice(), &names) {
+            return Err(HierRefusal::Missing(name.copy()?));
+        }
+        let links = links_of(alloc, shapes.as_slice(), &names)?;
+        let supers = all_led(alloc, links.as_slice())?;
+        if let Some(name) = least_circular(shapes.as_slice(), supers.as_slice()) {
+            return Err(HierRefusal::Circular(name.copy()?));
+        }
+        if let Some(name) = least_wrong(shapes.as_slice(), &names) {
+            return Err(HierRefusal::SuperKind(name.copy()?));
+        }
+        Ok(World {
+            shapes,
+            names,
+            supers,
+        })
     }
 
     /// The shapes, a class at the place of its number.
@@ -59,13 +79,16 @@ impl World {
     /// The class or interface of this name, if the world has one.
     pub fn class(&self, name: &Name) -> Option<ClassId>
         ensures found { IfSome result (λ c. IsNamed self.now c.number name.now) }
+        ensures within { IfSome result (λ c. c.number < length self.now) }
         ensures none { IfNone result ((c : ℕ) → ¬ IsNamed self.now c name.now) }
         ensures world { IsWorld self.now }
     {
-        let number = self.names.get_index_of(name.as_slice())?;
-        Some(ClassId {
-            number: number as u32,
-        })
+        match self.names.place(name) {
+            None => None,
+            Some(number) => Some(ClassId {
+                number: number as u32,
+            }),
+        }
     }
 
     /// The shape of a class.
@@ -85,18 +108,22 @@ impl World {
         ensures exact { IsTrue result ↔ Sub self.now a.number b.number }
         ensures world { IsWorld self.now }
     {
-        a == b || self.supers[a.number as usize].binary_search(&b).is_ok()
+        let supers = self.proper_supers(a);
+        a == b || contains(supers, b)
     }
 
     /// The direct superclass of a class; none of Object alone (JVMS 4.1).
     pub fn superclass(&self, c: ClassId) -> Option<ClassId>
         requires { c.number < length self.now }
         ensures found { IfSome result (λ d. HasSuperclass self.now c.number d.number) }
+        ensures within { IfSome result (λ d. d.number < length self.now) }
         ensures none { IfNone result ((d : ℕ) → ¬ HasSuperclass self.now c.number d) }
         ensures world { IsWorld self.now }
     {
-        let parent = self.shape(c).parent.as_ref()?;
-        self.class(parent)
+        match &self.shape(c).parent {
+            None => None,
+            Some(parent) => self.class(parent),
+        }
     }
 
     /// The superclasses of a class, the direct one first and Object last. Only memory can be wanting.
@@ -108,6 +135,10 @@ impl World {
         let mut found = Vec::new(alloc);
         let mut class = c;
         while let Some(next) = self.superclass(class) {
+            // each superclass has fewer supertypes, so the chain ends
+            prove!(
+                self.supers[next.number as usize].len() < self.supers[class.number as usize].len()
+            );
             found.push(next)?;
             class = next;
         }

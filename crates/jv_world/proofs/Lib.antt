@@ -1,0 +1,14 @@
+mod Absent
+mod Arrays
+mod Built
+mod Choices
+mod SuperKinds
+mod Counting
+mod Leasts
+mod Linking
+mod Marking
+mod NamesFound
+mod Searching
+mod Ranking
+mod Rising
+mod Subtypes
