@@ -1,0 +1,14 @@
+pub mod Tests
+pub mod PlacesLemmas
+pub mod PackagesLemmas
+pub mod Hierarchy
+pub mod OverridingLemmas
+pub mod MembersLemmas
+pub mod Climbing
+pub mod SuperinterfaceLemmas
+pub mod Going
+pub mod AboveLemmas
+pub mod ReferenceLemmas
+pub mod MethodLemmas
+pub mod SelectionLemmas
+pub mod SpecialLemmas

@@ -1,0 +1,21 @@
+-- What is found is declared.
+use Rattle.std.proofs.Common.{◌≡◌}
+use Rattle.jv_types.specs.declared.ids.MethodId.{MethodId}
+use Rattle.jv_resolve.specs.Members.{DeclaresMethod, init_name}
+use Rattle.jv_resolve.specs.Resolving.{IsInitKept, ResolvesInClass}
+use Rattle.jv_resolve.proofs.MethodLemmas.{class_declares}
+use Rattle.jv_resolve.proofs.Tests.{none_weaker, ok_none}
+use Rattle.jv_resolve.proofs.methods.found_in_class.Goals as goal
+
+pub returns-then-is_init-clause-none : goal.returns-then-is_init-clause-none
+returns-then-is_init-clause-none c =
+    none_weaker c.own_init.result
+    (c.args.r.now.name ≡ init_name → (m : MethodId) → DeclaresMethod c.args.world.now c.args.r.now.name c.args.r.now.desc m → IsInitKept c.args.world.now c.args.r.now m → ⊥)
+    ((m : MethodId) → ResolvesInClass c.args.world.now c.args.start.number c.args.r.now.name c.args.r.now.desc m → IsInitKept c.args.world.now c.args.r.now m → ⊥)
+    (λ none m p kept. none (c.is_init.ensures.0 c.if-is_init.true) m (class_declares c.args.world.now c.args.start.number c.args.r.now.name c.args.r.now.desc m p) kept) c.own_init.ensures.none
+
+pub returns-clause-none : goal.returns-clause-none
+returns-clause-none c =
+    ok_none c.class_method.result ((m : MethodId) → ResolvesInClass c.args.world.now c.args.start.number c.args.r.now.name c.args.r.now.desc m → ⊥)
+    ((m : MethodId) → ResolvesInClass c.args.world.now c.args.start.number c.args.r.now.name c.args.r.now.desc m → IsInitKept c.args.world.now c.args.r.now m → ⊥)
+    (λ none m p kept. none m p) c.class_method.ensures.none

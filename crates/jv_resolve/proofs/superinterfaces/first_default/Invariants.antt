@@ -1,0 +1,7 @@
+-- None of the methods so far is maximally specific and not abstract.
+use Rattle.jv_resolve.specs.Among.{IsDefaultAmong}
+use Rattle.jv_resolve.specs.Places.{NoneBelow}
+use Rattle.jv_resolve.proofs.superinterfaces.first_default.Given as goal
+
+abbrev pub invariant-loop-m : goal.invariant-loop-m
+invariant-loop-m l = NoneBelow (IsDefaultAmong l.world l.methods) l.methods l.m-index

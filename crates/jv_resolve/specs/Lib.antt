@@ -1,0 +1,14 @@
+pub mod Places
+pub mod Members
+pub mod Inheriting
+pub mod DepthFirst
+pub mod Packages
+pub mod References
+pub mod Access
+pub mod Overriding
+pub mod Resolving
+pub mod Selecting
+pub mod Wanted
+pub mod Among
+pub mod Targets
+pub mod Refusals
