@@ -1,3 +1,4 @@
 pub mod NameForms
+pub mod Quantities
 pub mod Rules
 pub mod Types
