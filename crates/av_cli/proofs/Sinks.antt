@@ -1,11 +1,11 @@
 -- Handing a text to a sink in pieces: what holds between two pieces, and how pieces join.
-use Rattle.std.proofs.Common.{◌∷◌, ◌≡◌, ℕ, ◌≤◌, List, [], ◌++◌, take, drop, Option, Some, None, Result, Ok, Err, refl, sym, ap, ◌∙◌, subst, append_assoc, arith, inl, inr}
+use Rattle.std.proofs.Common.{◌∷◌, ◌≡◌, ℕ, ◌<◌, ◌≤◌, length, List, [], ◌++◌, take, drop, Option, Some, None, Result, Ok, Err, refl, sym, ap, ◌∙◌, subst, append_assoc, arith, inl, inr}
 use Rattle.std.specs.Prelude.{option_map}
 use Rattle.std.proofs.lemmas.List.{append-nil, take-append-drop}
 use Rattle.jv_host.specs.declared.sink.SinkFault.{SinkFault}
 use Rattle.jv_host.specs.declared.sink.SinkFault.TheVariants.{Failed, Memory}
 use Rattle.jv_host.specs.Counts.{Rises}
-use Rattle.jv_host.specs.SinkAnswer.{OnSinkFailed, OnSinkLacking}
+use Rattle.jv_host.specs.SinkAnswer.{OnSinkFailed, OnSinkLacking, blanks_after}
 use Rattle.av_cli.specs.Lines.{text_of_lines}
 use Rattle.av_cli.specs.Ending.{Says}
 use Rattle.av_cli.specs.Handing.{SinkState, Takes, NeverFalls, AreCountsKept, Handed}
@@ -191,3 +191,8 @@ pub says : (r : Result (Unit {0}) SinkFault) (a b : SinkState) (line : List ℕ)
 says (Ok u) a b line h = inl (h.whole, h.untroubled)
 says (Err Failed) a b line h = inr (h.front, inl h.failed)
 says (Err Memory) a b line h = inr (h.front, inr h.lacking)
+
+-- a piece that isn't empty leaves the count of empty ones
+pub blanks_kept : (bytes : List ℕ) (blanks : Option ℕ) → 0 < length bytes → blanks_after bytes blanks ≡ blanks
+blanks_kept [] blanks lt = absurd (omega (arith, lt))
+blanks_kept (b ∷ bytes) blanks lt = refl

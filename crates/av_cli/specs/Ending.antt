@@ -14,7 +14,7 @@ use Rattle.av_cli.specs.declared.status.Answer.TheVariants.{Printed, Misused, Un
 use Rattle.av_cli.specs.Machine.{IsMain}
 use Rattle.av_cli.specs.Promise.{IsCallGraph}
 use Rattle.av_cli.specs.Handing.{SinkState, Takes, TakesFront, AreCountsKept}
-use Rattle.av_cli.specs.Answers.{status_of, file_name, request, class_of_words, error_line}
+use Rattle.av_cli.specs.Answers.{status_of, file_name, file_most, request, class_of_words, error_line}
 
 -- what a command sees of the outside: the files, where the host tells them, how its count of failed
 -- reads moved, the call that failed last, where it tells that, and the printed output
@@ -75,7 +75,7 @@ Concludes o root name Unwritable = ConcludesBytes o root name Unwritable
 Concludes o root name OutOfMemory = NothingPrinted o ⊎ ConcludesBytes o root name OutOfMemory
 -- the read of that file failed
 Concludes o root name Unreadable =
-    Rises o.reads_before o.reads_after × IfSome o.failed (λ call. call ≡ Some (ReadFile root (file_name name))) × NothingPrinted o
+    Rises o.reads_before o.reads_after × IfSome o.failed (λ call. call ≡ Some (ReadFile root (file_name name) file_most)) × NothingPrinted o
 Concludes o root name NoFile = IfSome o.files (λ told. bytes_of told root (file_name name) ≡ None) × NothingPrinted o
 Concludes o root name Misused = ⊥
 
@@ -132,4 +132,4 @@ abbrev pub CallsOnlyRead : List (List ℕ) → Option (List HostCall) → Option
 CallsOnlyRead words before after =
     (after ≡ before)
     ⊎ ((root : List ℕ) × (name : List ℕ) × (words ≡ request root name)
-    × (after ≡ option_map (λ calls. calls ++ ReadFile root (file_name name) ∷ []) before))
+    × (after ≡ option_map (λ calls. calls ++ ReadFile root (file_name name) file_most ∷ []) before))

@@ -42,14 +42,14 @@ fn read_class_file<H: Host>(
     ensures gives { IfOk result (λ found. IfSome (H.files host.old) (λ told.
         option_map (λ bytes. bytes.items) found ≡ option_map (take file_most) (bytes_of told root.now (file_name name.now)))) }
     ensures fault_counted { OnHostFailed result (Rises (H.read_faults host.old) (H.read_faults host.new)) }
-    ensures failed_now { OnHostFailed result (IfSome (H.failed host.new) (λ call. call ≡ Some (ReadFile root.now (file_name name.now)))) }
+    ensures failed_now { OnHostFailed result (IfSome (H.failed host.new) (λ call. call ≡ Some (ReadFile root.now (file_name name.now) file_most))) }
 
     ensures files_kept { H.files host.new ≡ H.files host.old }
     ensures written_kept { H.written host.new ≡ H.written host.old }
     ensures write_faults_kept { H.write_faults host.new ≡ H.write_faults host.old }
     ensures asked_at_most_once { (H.asked host.new ≡ H.asked host.old) ⊎ (H.asked host.new ≡ option_map one_more (H.asked host.old)) }
     ensures only_read { (H.calls host.new ≡ H.calls host.old)
-        ⊎ (H.calls host.new ≡ option_map (λ calls. calls ++ ReadFile root.now (file_name name.now) ∷ []) (H.calls host.old)) }
+        ⊎ (H.calls host.new ≡ option_map (λ calls. calls ++ ReadFile root.now (file_name name.now) file_most ∷ []) (H.calls host.old)) }
 {
     let root = Name::from_slice(alloc, root)?;
     let file = file_name(alloc, name)?;
@@ -58,8 +58,9 @@ fn read_class_file<H: Host>(
 
 /// Prints the lines of the class of this name that the bytes are.
 fn print_calls<O: Sink>(alloc: Global, name: &[u8], bytes: &[u8], out: &mut O) -> Answer
-    ensures { Prints name.now bytes.now (record { taken = O.taken out.old; faults = O.faults out.old; lacks = O.lacks out.old })
+    ensures prints { Prints name.now bytes.now (record { taken = O.taken out.old; faults = O.faults out.old; lacks = O.lacks out.old })
         (record { taken = O.taken out.new; faults = O.faults out.new; lacks = O.lacks out.new }) result }
+    ensures no_blanks { O.blanks out.new ≡ O.blanks out.old }
 {
     let lines = match call_graph(alloc, name, bytes) {
         Ok(lines) => lines,
@@ -90,13 +91,14 @@ pub fn print_class<H: Host, O: Sink>(
       out_before = record { taken = O.taken out.old; faults = O.faults out.old; lacks = O.lacks out.old };
       out_after = record { taken = O.taken out.new; faults = O.faults out.new; lacks = O.lacks out.new };
     }) root.now name.now result }
+    ensures no_blanks { O.blanks out.new ≡ O.blanks out.old }
 
     ensures files_kept { H.files host.new ≡ H.files host.old }
     ensures written_kept { H.written host.new ≡ H.written host.old }
     ensures write_faults_kept { H.write_faults host.new ≡ H.write_faults host.old }
     ensures asked_at_most_once { (H.asked host.new ≡ H.asked host.old) ⊎ (H.asked host.new ≡ option_map one_more (H.asked host.old)) }
     ensures only_read { (H.calls host.new ≡ H.calls host.old)
-        ⊎ (H.calls host.new ≡ option_map (λ calls. calls ++ ReadFile root.now (file_name name.now) ∷ []) (H.calls host.old)) }
+        ⊎ (H.calls host.new ≡ option_map (λ calls. calls ++ ReadFile root.now (file_name name.now) file_most ∷ []) (H.calls host.old)) }
 {
     match read_class_file(alloc, root, name, host) {
         Ok(Some(bytes)) => print_calls(alloc, name, bytes.as_slice(), out),

@@ -12,6 +12,7 @@ pub fn write_answer<E: Sink>(err: &mut E, answer: Answer, name: &[u8]) -> Result
     ensures said { Handed result (record { taken = E.taken err.old; faults = E.faults err.old; lacks = E.lacks err.old })
         (record { taken = E.taken err.new; faults = E.faults err.new; lacks = E.lacks err.new }) (error_line name.now answer) }
     ensures silent { answer ≡ Answer.Printed → err.new ≡ err.old }
+    ensures no_blanks { E.blanks err.new ≡ E.blanks err.old }
 {
     match answer {
         Answer::Printed => Ok(()),

@@ -31,6 +31,9 @@ pub fn run<H: Host, O: Sink, E: Sink>(
         (record { taken = E.taken err.old; faults = E.faults err.old; lacks = E.lacks err.old })
         (record { taken = E.taken err.new; faults = E.faults err.new; lacks = E.lacks err.new }) result }
     ensures silent_at_done { result ≡ Status.Done → err.new ≡ err.old }
+    // Neither sink is handed an empty piece.
+    ensures no_blank_printed { O.blanks out.new ≡ O.blanks out.old }
+    ensures no_blank_told { E.blanks err.new ≡ E.blanks err.old }
 
     // The host is left alone, but for the one read.
     ensures asked_at_most_once { (H.asked host.new ≡ H.asked host.old) ⊎ (H.asked host.new ≡ option_map one_more (H.asked host.old)) }

@@ -2,7 +2,7 @@
 use Rattle.std.specs.Prelude.{ℕ, List}
 
 -- how many bytes it takes per call at most, the numbers of the calls that are to fail, the bytes taken, how many calls
--- there were, how many failed, and how many lacked memory
+-- there were, how many failed, how many lacked memory, and how many were handed an empty piece
 pub record MemSinkState : Type 0 where
   pub step : ℕ
   pub fail : List ℕ
@@ -10,3 +10,4 @@ pub record MemSinkState : Type 0 where
   pub calls : ℕ
   pub faults : ℕ
   pub lacks : ℕ
+  pub blanks : ℕ

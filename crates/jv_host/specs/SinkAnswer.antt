@@ -1,5 +1,6 @@
--- What follows an answer of a sink.
-use Rattle.std.specs.Prelude.{⊤, Result, Ok, Err}
+-- What follows a call of a sink.
+use Rattle.std.specs.Prelude.{⊤, ℕ, List, [], ◌∷◌, Option, option_map, Result, Ok, Err}
+use Rattle.jv_host.specs.Counts.{one_more}
 use Rattle.jv_host.specs.declared.sink.SinkFault.{SinkFault}
 use Rattle.jv_host.specs.declared.sink.SinkFault.TheVariants.{Failed, Memory}
 
@@ -26,3 +27,8 @@ abbrev pub UnlessSinkLacking : {T : Type 0} → Result T SinkFault → Type 0 �
 UnlessSinkLacking (Ok _) P = P
 UnlessSinkLacking (Err Failed) P = P
 UnlessSinkLacking (Err Memory) P = ⊤
+
+-- how many empty pieces were handed over, where it is told, after this piece more
+abbrev pub blanks_after : List ℕ → Option ℕ → Option ℕ
+blanks_after [] blanks = option_map one_more blanks
+blanks_after (_ ∷ _) blanks = blanks

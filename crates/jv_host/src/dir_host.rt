@@ -1,4 +1,7 @@
-ghost use Rattle.std.specs.Prelude.{◌≡◌, ◌≤◌, None, IfOk, vec_len};
+ghost use Rattle.std.specs.Prelude.{◌≡◌, ◌≤◌, None, IfOk, IfSome, vec_len};
+ghost use Rattle.jv_host.specs.Counts.{Rises};
+ghost use Rattle.jv_host.specs.HostAnswer.{OnHostFailed, UnlessHostFailed};
+ghost use Rattle.jv_host.specs.DirHostState.{after_dir_read, after_dir_write};
 
 use crate::host::{Host, HostFault};
 use jv_types::Name;
@@ -202,7 +205,17 @@ impl<R: Files + AllocGlobal + Clone + Drop> Host for DirHost<R> {
 
     ghost write_faults = { λ h. h.write_faults };
 
-    fn list(&mut self, alloc: Global, root: &Name, most: usize) -> Result<Vec<Name>, HostFault> {
+    fn list(&mut self, alloc: Global, root: &Name, most: usize) -> Result<Vec<Name>, HostFault>
+        ensures at_most { IfOk result (λ names. vec_len names ≤ most) }
+
+        ensures fault_counted { OnHostFailed result (Rises self.old.read_faults self.new.read_faults) }
+        ensures faults_kept { UnlessHostFailed result (self.new.read_faults ≡ self.old.read_faults) }
+        ensures never_falls { self.old.read_faults ≤ self.new.read_faults }
+        ensures write_faults_kept { self.new.write_faults ≡ self.old.write_faults }
+
+        // Each failure counts once, and nothing else does.
+        ensures state { self.new ≡ after_dir_read result self.old }
+    {
         match list_root(&self.rt, alloc, root, most) {
             Ok(names) => Ok(names),
             Err(error) if error.kind() == ErrorKind::OutOfMemory => Err(HostFault::Memory),
@@ -219,7 +232,16 @@ impl<R: Files + AllocGlobal + Clone + Drop> Host for DirHost<R> {
         root: &Name,
         name: &Name,
         most: usize,
-    ) -> Result<Option<Vec<u8>>, HostFault> {
+    ) -> Result<Option<Vec<u8>>, HostFault>
+        ensures at_most { IfOk result (λ found. IfSome found (λ bytes. vec_len bytes ≤ most)) }
+
+        ensures fault_counted { OnHostFailed result (Rises self.old.read_faults self.new.read_faults) }
+        ensures faults_kept { UnlessHostFailed result (self.new.read_faults ≡ self.old.read_faults) }
+        ensures never_falls { self.old.read_faults ≤ self.new.read_faults }
+        ensures write_faults_kept { self.new.write_faults ≡ self.old.write_faults }
+
+        ensures state { self.new ≡ after_dir_read result self.old }
+    {
         let Ok(path) = file_path(alloc, root, name) else {
             return Err(HostFault::Memory);
         };
@@ -243,7 +265,14 @@ impl<R: Files + AllocGlobal + Clone + Drop> Host for DirHost<R> {
         root: &Name,
         name: &Name,
         bytes: &[u8],
-    ) -> Result<(), HostFault> {
+    ) -> Result<(), HostFault>
+        ensures fault_counted { OnHostFailed result (Rises self.old.write_faults self.new.write_faults) }
+        ensures faults_kept { UnlessHostFailed result (self.new.write_faults ≡ self.old.write_faults) }
+        ensures never_falls { self.old.write_faults ≤ self.new.write_faults }
+        ensures read_faults_kept { self.new.read_faults ≡ self.old.read_faults }
+
+        ensures state { self.new ≡ after_dir_write result self.old }
+    {
         let Ok(path) = file_path(alloc, root, name) else {
             return Err(HostFault::Memory);
         };

@@ -51,10 +51,10 @@ pub struct HostFile {
 /// A call of a host, by what it was asked.
 #[derive(Debug, PartialEq, Eq, PartialOrd, Ord, Drop)]
 pub enum HostCall {
-    /// The names under a root.
-    ListRoot { root: Name },
-    /// The bytes of a file.
-    ReadFile { root: Name, name: Name },
+    /// The names under a root, at most so many.
+    ListRoot { root: Name, most: usize },
+    /// The first bytes of a file, at most so many.
+    ReadFile { root: Name, name: Name, most: usize },
     /// That a file be written.
     WriteFile { root: Name, name: Name },
 }
@@ -95,14 +95,14 @@ pub trait Host {
         ensures files_kept { files self.new ≡ files self.old }
         ensures written_kept { written self.new ≡ written self.old }
         ensures asked_once { asked self.new ≡ option_map one_more (asked self.old) }
-        ensures calls_grow { calls self.new ≡ calls_after result (HostCall.ListRoot root.now) (calls self.old) }
+        ensures calls_grow { calls self.new ≡ calls_after result (HostCall.ListRoot root.now most) (calls self.old) }
 
         // Only a fault is counted, and it is then the last one.
         ensures fault_counted { OnHostFailed result (Rises (read_faults self.old) (read_faults self.new)) }
         ensures faults_kept { UnlessHostFailed result (read_faults self.new ≡ read_faults self.old) }
         ensures never_falls { read_faults self.old ≤ read_faults self.new }
         ensures write_faults_kept { write_faults self.new ≡ write_faults self.old }
-        ensures failed_now { OnHostFailed result (failed self.new ≡ option_map (λ _. Some (HostCall.ListRoot root.now)) (failed self.old)) }
+        ensures failed_now { OnHostFailed result (failed self.new ≡ option_map (λ _. Some (HostCall.ListRoot root.now most)) (failed self.old)) }
         ensures failed_kept { UnlessHostFailed result (failed self.new ≡ failed self.old) };
 
     /// The first `most` bytes of a file, or none where there is no such file.
@@ -121,13 +121,13 @@ pub trait Host {
         ensures files_kept { files self.new ≡ files self.old }
         ensures written_kept { written self.new ≡ written self.old }
         ensures asked_once { asked self.new ≡ option_map one_more (asked self.old) }
-        ensures calls_grow { calls self.new ≡ calls_after result (HostCall.ReadFile root.now name.now) (calls self.old) }
+        ensures calls_grow { calls self.new ≡ calls_after result (HostCall.ReadFile root.now name.now most) (calls self.old) }
 
         ensures fault_counted { OnHostFailed result (Rises (read_faults self.old) (read_faults self.new)) }
         ensures faults_kept { UnlessHostFailed result (read_faults self.new ≡ read_faults self.old) }
         ensures never_falls { read_faults self.old ≤ read_faults self.new }
         ensures write_faults_kept { write_faults self.new ≡ write_faults self.old }
-        ensures failed_now { OnHostFailed result (failed self.new ≡ option_map (λ _. Some (HostCall.ReadFile root.now name.now)) (failed self.old)) }
+        ensures failed_now { OnHostFailed result (failed self.new ≡ option_map (λ _. Some (HostCall.ReadFile root.now name.now most)) (failed self.old)) }
         ensures failed_kept { UnlessHostFailed result (failed self.new ≡ failed self.old) };
 
     /// Writes a file. On an error nothing is added to the files written.
@@ -157,10 +157,14 @@ pub trait Host {
 impl Copied for HostCall {
     fn copy(&self) -> Result<HostCall, AllocError> {
         match self {
-            HostCall::ListRoot { root } => Ok(HostCall::ListRoot { root: root.copy()? }),
-            HostCall::ReadFile { root, name } => Ok(HostCall::ReadFile {
+            HostCall::ListRoot { root, most } => Ok(HostCall::ListRoot {
+                root: root.copy()?,
+                most: *most,
+            }),
+            HostCall::ReadFile { root, name, most } => Ok(HostCall::ReadFile {
                 root: root.copy()?,
                 name: name.copy()?,
+                most: *most,
             }),
             HostCall::WriteFile { root, name } => Ok(HostCall::WriteFile {
                 root: root.copy()?,

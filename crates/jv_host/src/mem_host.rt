@@ -113,19 +113,23 @@ fn front_of(
 }
 
 /// The call that lists a root.
-fn list_call(root: &Name) -> Result<HostCall, AllocError>
-    ensures { IfOk result (λ call. call ≡ HostCall.ListRoot root.now) }
+fn list_call(root: &Name, most: usize) -> Result<HostCall, AllocError>
+    ensures { IfOk result (λ call. call ≡ HostCall.ListRoot root.now most) }
 {
-    Ok(HostCall::ListRoot { root: root.copy()? })
+    Ok(HostCall::ListRoot {
+        root: root.copy()?,
+        most,
+    })
 }
 
 /// The call that reads a file.
-fn read_call(root: &Name, name: &Name) -> Result<HostCall, AllocError>
-    ensures { IfOk result (λ call. call ≡ HostCall.ReadFile root.now name.now) }
+fn read_call(root: &Name, name: &Name, most: usize) -> Result<HostCall, AllocError>
+    ensures { IfOk result (λ call. call ≡ HostCall.ReadFile root.now name.now most) }
 {
     Ok(HostCall::ReadFile {
         root: root.copy()?,
         name: name.copy()?,
+        most,
     })
 }
 
@@ -245,22 +249,22 @@ impl Host for MemHost {
         ensures files_kept { Some self.new.files ≡ Some self.old.files }
         ensures written_kept { Some self.new.written ≡ Some self.old.written }
         ensures asked_once { Some self.new.calls ≡ Some (one_more self.old.calls) }
-        ensures calls_grow { Some self.new.answered ≡ calls_after result (HostCall.ListRoot root.now) (Some self.old.answered) }
+        ensures calls_grow { Some self.new.answered ≡ calls_after result (HostCall.ListRoot root.now most) (Some self.old.answered) }
 
         ensures fault_counted { OnHostFailed result (Rises self.old.read_faults self.new.read_faults) }
         ensures faults_kept { UnlessHostFailed result (self.new.read_faults ≡ self.old.read_faults) }
         ensures never_falls { self.old.read_faults ≤ self.new.read_faults }
         ensures write_faults_kept { self.new.write_faults ≡ self.old.write_faults }
-        ensures failed_now { OnHostFailed result (Some self.new.failed ≡ Some (Some (HostCall.ListRoot root.now))) }
+        ensures failed_now { OnHostFailed result (Some self.new.failed ≡ Some (Some (HostCall.ListRoot root.now most))) }
         ensures failed_kept { UnlessHostFailed result (Some self.new.failed ≡ Some self.old.failed) }
 
         // The whole state, and the answer `Failed` where it is planned and nowhere else.
-        ensures state { self.new ≡ after_read result (HostCall.ListRoot root.now) (counted self.old) }
+        ensures state { self.new ≡ after_read result (HostCall.ListRoot root.now most) (counted self.old) }
         ensures planned { Contains self.old.fail (one_more self.old.calls) → IsErr result }
         ensures unplanned { IsErrOf result HostFault.Failed → Contains self.old.fail (one_more self.old.calls) }
     {
         let planned = self.begin();
-        let Ok(call) = list_call(root) else {
+        let Ok(call) = list_call(root, most) else {
             return Err(HostFault::Memory);
         };
         if planned {
@@ -296,22 +300,22 @@ impl Host for MemHost {
         ensures files_kept { Some self.new.files ≡ Some self.old.files }
         ensures written_kept { Some self.new.written ≡ Some self.old.written }
         ensures asked_once { Some self.new.calls ≡ Some (one_more self.old.calls) }
-        ensures calls_grow { Some self.new.answered ≡ calls_after result (HostCall.ReadFile root.now name.now) (Some self.old.answered) }
+        ensures calls_grow { Some self.new.answered ≡ calls_after result (HostCall.ReadFile root.now name.now most) (Some self.old.answered) }
 
         ensures fault_counted { OnHostFailed result (Rises self.old.read_faults self.new.read_faults) }
         ensures faults_kept { UnlessHostFailed result (self.new.read_faults ≡ self.old.read_faults) }
         ensures never_falls { self.old.read_faults ≤ self.new.read_faults }
         ensures write_faults_kept { self.new.write_faults ≡ self.old.write_faults }
-        ensures failed_now { OnHostFailed result (Some self.new.failed ≡ Some (Some (HostCall.ReadFile root.now name.now))) }
+        ensures failed_now { OnHostFailed result (Some self.new.failed ≡ Some (Some (HostCall.ReadFile root.now name.now most))) }
         ensures failed_kept { UnlessHostFailed result (Some self.new.failed ≡ Some self.old.failed) }
 
         // The whole state, and the answer `Failed` where it is planned and nowhere else.
-        ensures state { self.new ≡ after_read result (HostCall.ReadFile root.now name.now) (counted self.old) }
+        ensures state { self.new ≡ after_read result (HostCall.ReadFile root.now name.now most) (counted self.old) }
         ensures planned { Contains self.old.fail (one_more self.old.calls) → IsErr result }
         ensures unplanned { IsErrOf result HostFault.Failed → Contains self.old.fail (one_more self.old.calls) }
     {
         let planned = self.begin();
-        let Ok(call) = read_call(root, name) else {
+        let Ok(call) = read_call(root, name, most) else {
             return Err(HostFault::Memory);
         };
         if planned {

@@ -1,6 +1,6 @@
 ghost use Rattle.std.specs.Prelude.{◌≡◌, ◌<◌, ◌≤◌, ◌↔◌, ◌++◌, [], List, ℕ, take, length, min, option_map, Contains, IfOk, OnErr, IsErrOf, Some};
 ghost use Rattle.jv_host.specs.Counts.{Rises, one_more};
-ghost use Rattle.jv_host.specs.SinkAnswer.{OnSinkFailed, UnlessSinkFailed, OnSinkLacking, UnlessSinkLacking};
+ghost use Rattle.jv_host.specs.SinkAnswer.{OnSinkFailed, UnlessSinkFailed, OnSinkLacking, UnlessSinkLacking, blanks_after};
 
 use crate::sink::{Sink, SinkFault};
 use jv_types::Seq;
@@ -17,6 +17,7 @@ pub struct MemSink {
     calls: u64,
     faults: u64,
     lacks: u64,
+    blanks: u64,
 }
 
 impl Model for MemSink {
@@ -25,7 +26,7 @@ impl Model for MemSink {
 
     ghost Value = { MemSinkState };
 
-    ghost view = { λ s. record { step = s.step; fail = s.fail; taken = s.bytes.items; calls = s.calls; faults = s.faults; lacks = s.lacks } };
+    ghost view = { λ s. record { step = s.step; fail = s.fail; taken = s.bytes.items; calls = s.calls; faults = s.faults; lacks = s.lacks; blanks = s.blanks } };
 
     ghost invariant = { λ s. 0 < s.step };
 }
@@ -34,7 +35,7 @@ impl MemSink {
     /// A sink that has taken nothing, which takes no memory.
     pub fn new(alloc: Global, step: usize, fail: Seq<u64>) -> MemSink
         requires { 1 ≤ step }
-        ensures { result ≡ record { step = step; fail = fail; taken = []; calls = 0; faults = 0; lacks = 0 } }
+        ensures { result ≡ record { step = step; fail = fail; taken = []; calls = 0; faults = 0; lacks = 0; blanks = 0 } }
     {
         MemSink {
             step,
@@ -43,6 +44,7 @@ impl MemSink {
             calls: 0,
             faults: 0,
             lacks: 0,
+            blanks: 0,
         }
     }
 
@@ -61,6 +63,8 @@ impl Sink for MemSink {
 
     ghost lacks = { λ s. s.lacks };
 
+    ghost blanks = { λ s. Some s.blanks };
+
     fn write(&mut self, bytes: &[u8]) -> Result<usize, SinkFault>
         ensures within { IfOk result (λ count. count ≤ length bytes.now) }
         ensures progress { IfOk result (λ count. 0 < length bytes.now → 0 < count) }
@@ -75,6 +79,8 @@ impl Sink for MemSink {
         ensures lacks_kept { UnlessSinkLacking result (self.new.lacks ≡ self.old.lacks) }
         ensures lacks_never_fall { self.old.lacks ≤ self.new.lacks }
 
+        ensures blanks_counted { Some self.new.blanks ≡ blanks_after bytes.now (Some self.old.blanks) }
+
         // As many bytes as are asked for or as a step has, and a fault exactly where one is planned.
         ensures count { IfOk result (λ count. count ≡ min (length bytes.now) self.old.step) }
         ensures planned { IsErrOf result SinkFault.Failed ↔ Contains self.old.fail (one_more self.old.calls) }
@@ -85,6 +91,9 @@ impl Sink for MemSink {
         ensures plan_kept { self.new.fail ≡ self.old.fail }
     {
         self.calls = self.calls.saturating_add(1);
+        if bytes.is_empty() {
+            self.blanks = self.blanks.saturating_add(1);
+        }
         if self.fail.as_slice().contains(&self.calls) {
             self.faults = self.faults.saturating_add(1);
             return Err(SinkFault::Failed);

@@ -1,6 +1,6 @@
 ghost use Rattle.std.specs.Prelude.{◌≡◌, ◌<◌, ◌≤◌, ◌++◌, List, ℕ, Option, take, length, option_map, IfOk, OnErr};
 ghost use Rattle.jv_host.specs.Counts.{Rises};
-ghost use Rattle.jv_host.specs.SinkAnswer.{OnSinkFailed, UnlessSinkFailed, OnSinkLacking, UnlessSinkLacking};
+ghost use Rattle.jv_host.specs.SinkAnswer.{OnSinkFailed, UnlessSinkFailed, OnSinkLacking, UnlessSinkLacking, blanks_after};
 
 /// Why a sink takes nothing.
 #[derive(Clone, Copy, Debug, PartialEq, Eq)]
@@ -23,6 +23,9 @@ pub trait Sink {
     /// How often the sink's own memory was wanting.
     ghost lacks: { Self → ℕ };
 
+    /// How many empty pieces were handed to it, where it is told.
+    ghost blanks: { Self → Option ℕ };
+
     /// Takes a front of the bytes, and says how many: at least one, where there is one.
     fn write(&mut self, bytes: &[u8]) -> Result<usize, SinkFault>
         ensures within { IfOk result (λ count. count ≤ length bytes.now) }
@@ -36,5 +39,7 @@ pub trait Sink {
 
         ensures lack_counted { OnSinkLacking result (Rises (lacks self.old) (lacks self.new)) }
         ensures lacks_kept { UnlessSinkLacking result (lacks self.new ≡ lacks self.old) }
-        ensures lacks_never_fall { lacks self.old ≤ lacks self.new };
+        ensures lacks_never_fall { lacks self.old ≤ lacks self.new }
+
+        ensures blanks_counted { blanks self.new ≡ blanks_after bytes.now (blanks self.old) };
 }

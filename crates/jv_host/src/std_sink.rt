@@ -39,6 +39,8 @@ impl<W: Write + Drop> Sink for StdSink<W> {
 
     ghost lacks = { λ _. 0 };
 
+    ghost blanks = { λ _. None };
+
     /// One write of the writer. That it takes none of some bytes counts as a failure.
     fn write(&mut self, bytes: &[u8]) -> Result<usize, SinkFault>
         ensures within { IfOk result (λ count. count ≤ length bytes.now) }

@@ -4,20 +4,20 @@ use Rattle.jv_bytes.specs.Shown.{shown_text}
 use Rattle.av_cli.proofs.Sinks.{from_handed, Handed-then, Handed-cut}
 use Rattle.av_cli.proofs.handing.write_about.Goals as goal
 
-pub returns-in_err-write_whole : goal.returns-in_err-write_whole
-returns-in_err-write_whole g c =
+pub returns-in_err-write_whole-clause-handed : goal.returns-in_err-write_whole-clause-handed
+returns-in_err-write_whole-clause-handed g c =
     let p = err_from_is_err_and c.from_residual.result c.from_residual.ensures.1 in
-    rw (p.1, p.2) (Handed-cut c.in_err-write_whole.field-0.0 _ _ c.args.before.now (shown_text c.args.text.now ++ c.args.after.now) c.in_err-write_whole.ensures)
+    rw (p.1, p.2) (Handed-cut c.in_err-write_whole.field-0.0 _ _ c.args.before.now (shown_text c.args.text.now ++ c.args.after.now) c.in_err-write_whole.ensures.handed)
 
-pub returns-in_err-write_shown : goal.returns-in_err-write_shown
-returns-in_err-write_shown g c =
+pub returns-in_err-write_shown-clause-handed : goal.returns-in_err-write_shown-clause-handed
+returns-in_err-write_shown-clause-handed g c =
     let p = err_from_is_err_and c.from_residual-in_err-write_shown.result c.from_residual-in_err-write_shown.ensures.1 in
     rw (p.1, p.2) (Handed-then _ _ _ _ c.args.before.now (shown_text c.args.text.now ++ c.args.after.now)
-    (from_handed _ _ _ _ c.in_ok-write_whole.ensures)
-    (Handed-cut c.in_err-write_shown.field-0.0 _ _ (shown_text c.args.text.now) c.args.after.now c.in_err-write_shown.ensures))
+    (from_handed _ _ _ _ c.in_ok-write_whole.ensures.handed)
+    (Handed-cut c.in_err-write_shown.field-0.0 _ _ (shown_text c.args.text.now) c.args.after.now c.in_err-write_shown.ensures.handed))
 
-pub returns : goal.returns
-returns g c =
+pub returns-clause-handed : goal.returns-clause-handed
+returns-clause-handed g c =
     Handed-then _ _ _ _ c.args.before.now (shown_text c.args.text.now ++ c.args.after.now)
-    (from_handed _ _ _ _ c.in_ok-write_whole.ensures)
-    (Handed-then _ _ _ _ (shown_text c.args.text.now) c.args.after.now (from_handed _ _ _ _ c.in_ok-write_shown.ensures) c.write_whole-2.ensures)
+    (from_handed _ _ _ _ c.in_ok-write_whole.ensures.handed)
+    (Handed-then _ _ _ _ (shown_text c.args.text.now) c.args.after.now (from_handed _ _ _ _ c.in_ok-write_shown.ensures.handed) c.write_whole-2.ensures.handed)

@@ -1,4 +1,4 @@
-use Rattle.std.proofs.Common.{length}
+use Rattle.std.proofs.Common.{◌≡◌, length}
 use Rattle.av_cli.specs.Lines.{text_of_lines}
 use Rattle.av_cli.proofs.Sinks.{IsPartTaken}
 use Rattle.av_cli.proofs.handing.write_lines.Given as goal
@@ -7,8 +7,9 @@ use Rattle.av_cli.proofs.handing.write_lines.Given as goal
 abbrev pub invariant-loop-line : goal.invariant-loop-line
 invariant-loop-line g l =
     let O = g.O.Sink in
-    IsPartTaken (record { taken = O.taken l.fn.out; faults = O.faults l.fn.out; lacks = O.lacks l.fn.out })
-    (record { taken = O.taken l.out; faults = O.faults l.out; lacks = O.lacks l.out }) (text_of_lines l.fn.lines.keys) (text_of_lines l.left.keys)
+    (IsPartTaken (record { taken = O.taken l.fn.out; faults = O.faults l.fn.out; lacks = O.lacks l.fn.out })
+    (record { taken = O.taken l.out; faults = O.faults l.out; lacks = O.lacks l.out }) (text_of_lines l.fn.lines.keys) (text_of_lines l.left.keys))
+    × (O.blanks l.out ≡ O.blanks l.fn.out)
 
 abbrev pub decreases-loop-line : goal.decreases-loop-line
 decreases-loop-line g l = length l.left.keys

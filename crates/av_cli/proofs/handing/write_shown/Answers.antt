@@ -5,11 +5,11 @@ use Rattle.av_cli.proofs.ShownText.{shown_text-at}
 use Rattle.av_cli.proofs.Sinks.{Handed-then, Handed-cut}
 use Rattle.av_cli.proofs.handing.write_shown.Goals as goal
 
-pub returns-in_err-write_whole : goal.returns-in_err-write_whole
-returns-in_err-write_whole g c =
+pub returns-in_err-write_whole-clause-handed : goal.returns-in_err-write_whole-clause-handed
+returns-in_err-write_whole-clause-handed g c =
     let p = err_from_is_err_and c.from_residual.result c.from_residual.ensures.1 in
     let text = c.args.text.now in let i = c.loop-byte.byte-index in
     rw (p.1, p.2, shown_text-at text i c.loop-byte-test.true)
-    (Handed-then _ _ _ _ (shown_text (take i text)) (shown_byte (get_or text i 0) ++ shown_text (drop (suc i) text)) c.loop-byte.invariant
+    (Handed-then _ _ _ _ (shown_text (take i text)) (shown_byte (get_or text i 0) ++ shown_text (drop (suc i) text)) c.loop-byte.invariant.0
     (Handed-cut c.in_err-write_whole.field-0.0 _ _ (shown_byte (get_or text i 0)) (shown_text (drop (suc i) text))
-    (rw (c.as_slice.ensures, c.new.ensures) at c.in_err-write_whole.ensures)))
+    (rw (c.as_slice.ensures, c.new.ensures) at c.in_err-write_whole.ensures.handed)))
