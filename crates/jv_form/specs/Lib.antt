@@ -8,3 +8,5 @@ pub mod ClassesBodies
 pub mod ClassesHeads
 pub mod ClassesPlaces
 pub mod ClassesOutline
+pub mod Flags
+pub mod Kinds

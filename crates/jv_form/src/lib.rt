@@ -13,6 +13,7 @@ mod code_steps;
 mod layout;
 mod methods;
 mod number;
+pub mod object_class;
 mod outline;
 mod pool;
 mod read;
