@@ -5,7 +5,7 @@ use Rattle.std.specs.List.{slice_get}
 use Rattle.jv_form.specs.declared.object_class.Kind.{Kind}
 use Rattle.jv_form.specs.declared.object_class.Kind.TheVariants.{Word, Reference}
 use Rattle.jv_form.specs.declared.object_class.Instruction.{Instruction}
-use Rattle.jv_form.specs.declared.object_class.Instruction.TheVariants.{Nop, Null, Constant, LoadWord, LoadReference, StoreWord, StoreReference, Pop, Dup, Combine, Negate, GetStatic, PutStatic, GetField, PutField, InvokeVirtual, InvokeSpecial, InvokeObjectInit, InvokeStatic, New, ReturnWord, ReturnReference, Return}
+use Rattle.jv_form.specs.declared.object_class.Instruction.TheVariants.{Nop, PushNull, PushWord, Load, Store, Pop, Dup, Combine, Negate, GetStatic, PutStatic, GetField, PutField, InvokeVirtual, InvokeSpecial, InvokeObjectInit, InvokeStatic, New, Return}
 use Rattle.jv_form.specs.declared.object_class.Placed.{Placed}
 use Rattle.jv_form.specs.declared.object_class.Field.{Field}
 use Rattle.jv_form.specs.declared.object_class.Method.{Method}
@@ -43,12 +43,10 @@ IsStaticMethod class place m = (slice_get class.methods place ≡ Some m) × IsS
 -- one on top, and what it names is there (JVMS 6.5). A return leads to no other instruction
 abbrev pub Effect : ObjectClass → Instruction → List Kind → List Kind → Type 0
 Effect class Nop takes gives = (takes ≡ []) × (gives ≡ [])
-Effect class Null takes gives = (takes ≡ []) × (gives ≡ Reference ∷ [])
-Effect class Constant takes gives = (takes ≡ []) × (gives ≡ Word ∷ [])
-Effect class (LoadWord local) takes gives = (takes ≡ []) × (gives ≡ Word ∷ [])
-Effect class (LoadReference local) takes gives = (takes ≡ []) × (gives ≡ Reference ∷ [])
-Effect class (StoreWord local) takes gives = (takes ≡ Word ∷ []) × (gives ≡ [])
-Effect class (StoreReference local) takes gives = (takes ≡ Reference ∷ []) × (gives ≡ [])
+Effect class PushNull takes gives = (takes ≡ []) × (gives ≡ Reference ∷ [])
+Effect class PushWord takes gives = (takes ≡ []) × (gives ≡ Word ∷ [])
+Effect class (Load kind local) takes gives = (takes ≡ []) × (gives ≡ kind ∷ [])
+Effect class (Store kind local) takes gives = (takes ≡ kind ∷ []) × (gives ≡ [])
 Effect class Pop takes gives = (kind : Kind) × (takes ≡ kind ∷ []) × (gives ≡ [])
 Effect class Dup takes gives = (kind : Kind) × (takes ≡ kind ∷ []) × (gives ≡ kind ∷ kind ∷ [])
 Effect class Combine takes gives = (takes ≡ Word ∷ Word ∷ []) × (gives ≡ Word ∷ [])
@@ -62,9 +60,7 @@ Effect class (InvokeSpecial place) takes gives = (m : Method) × IsSpecialMethod
 Effect class InvokeObjectInit takes gives = (takes ≡ Reference ∷ []) × (gives ≡ [])
 Effect class (InvokeStatic place) takes gives = (m : Method) × IsStaticMethod class place m × (takes ≡ m.arguments) × (gives ≡ result_kinds m.result)
 Effect class New takes gives = (takes ≡ []) × (gives ≡ Reference ∷ [])
-Effect class ReturnWord takes gives = ⊥
-Effect class ReturnReference takes gives = ⊥
-Effect class Return takes gives = ⊥
+Effect class (Return result) takes gives = ⊥
 
 -- what is known of a method's words: each local's kind, none where it is unset, and the kinds of the
 -- words on the stack from its bottom
@@ -74,10 +70,8 @@ pub record Frame : Type 0 where
 
 -- a load finds its kind in its local, a store leaves its kind there, and no other instruction looks at locals
 abbrev pub Locals : Instruction → List (Option Kind) → List (Option Kind) → Type 0
-Locals (LoadWord local) before after = (slice_get before local ≡ Some (Some Word)) × (after ≡ before)
-Locals (LoadReference local) before after = (slice_get before local ≡ Some (Some Reference)) × (after ≡ before)
-Locals (StoreWord local) before after = (local < length before) × (after ≡ slice_set before local (Some Word))
-Locals (StoreReference local) before after = (local < length before) × (after ≡ slice_set before local (Some Reference))
+Locals (Load kind local) before after = (slice_get before local ≡ Some (Some kind)) × (after ≡ before)
+Locals (Store kind local) before after = (local < length before) × (after ≡ slice_set before local (Some kind))
 Locals _ before after = after ≡ before
 
 -- the instruction finds the words that it takes on top of the stack, and leaves those that it gives in their place
@@ -90,13 +84,6 @@ pub record Goes (class : ObjectClass) (instruction : Instruction) (before after 
   pub left : after.stack ≡ rest ++ gives
   pub locals : Locals instruction before.locals after.locals
 
--- the instruction is the return of a result of this kind, or of none (JVMS 4.9.2)
-abbrev pub Returns : Instruction → Option Kind → Type 0
-Returns ReturnWord result = result ≡ Some Word
-Returns ReturnReference result = result ≡ Some Reference
-Returns Return result = result ≡ None
-Returns _ result = ⊥
-
 -- as a method is entered its arguments are its first locals, the others are unset, and the stack is empty (JVMS 2.6)
 abbrev pub start : Method → Frame
 start m = record {
@@ -105,8 +92,8 @@ start m = record {
 }
 
 -- the walk of kinds of a method: a frame before each of its instructions. The first is that of the
--- start, each instruction that isn't the last leads from its frame to the next one, and the last returns
--- a result of the method's kind, which stands on top of its stack
+-- start, each instruction that isn't the last leads from its frame to the next one, and the last is the
+-- return of a result of the method's kind, which stands on top of its stack
 pub record IsWalk (class : ObjectClass) (m : Method) (frames : List Frame) : Type 0 where
   pub as_many : length frames ≡ length m.code
   pub arguments_fit : length m.arguments ≤ m.max_locals
@@ -114,7 +101,7 @@ pub record IsWalk (class : ObjectClass) (m : Method) (frames : List Frame) : Typ
   pub goes : (i : ℕ) (p : Placed) (f g : Frame) → slice_get m.code i ≡ Some p → slice_get frames i ≡ Some f
       → slice_get frames (suc i) ≡ Some g → Goes class p.instruction f g
   pub ends : (i : ℕ) (p : Placed) (f : Frame) → slice_get m.code i ≡ Some p → slice_get frames i ≡ Some f
-      → suc i ≡ length m.code → Returns p.instruction m.result × ((rest : List Kind) × (f.stack ≡ rest ++ result_kinds m.result))
+      → suc i ≡ length m.code → (p.instruction ≡ Return m.result) × ((rest : List Kind) × (f.stack ≡ rest ++ result_kinds m.result))
   pub within : (i : ℕ) (f : Frame) → slice_get frames i ≡ Some f → length f.stack ≤ m.max_stack
 
 -- no two fields share name and descriptor (JVMS 4.5)

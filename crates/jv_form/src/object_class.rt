@@ -16,17 +16,13 @@ pub enum Instruction {
     /// `nop`.
     Nop,
     /// `aconst_null`.
-    Null,
-    /// `iconst`, `bipush` or `sipush`: pushes an int.
-    Constant,
-    /// `iload` of this local.
-    LoadWord(u8),
-    /// `aload` of this local.
-    LoadReference(u8),
-    /// `istore` to this local.
-    StoreWord(u8),
-    /// `astore` to this local.
-    StoreReference(u8),
+    PushNull,
+    /// `iconst`, `bipush` or `sipush`.
+    PushWord,
+    /// `iload` or `aload`.
+    Load { kind: Kind, local: u16 },
+    /// `istore` or `astore`.
+    Store { kind: Kind, local: u16 },
     /// `pop`.
     Pop,
     /// `dup`.
@@ -53,12 +49,8 @@ pub enum Instruction {
     InvokeStatic(u16),
     /// `new` of the class itself.
     New,
-    /// `ireturn`.
-    ReturnWord,
-    /// `areturn`.
-    ReturnReference,
-    /// `return`.
-    Return,
+    /// `ireturn`, `areturn` or `return`.
+    Return(Option<Kind>),
 }
 
 /// An instruction, and the offset in bytes at which it starts in its method's code.
