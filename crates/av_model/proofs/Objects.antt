@@ -47,12 +47,10 @@ module _ (class : ObjectClass) (pc : ℕ) (memory : Memory) (f : Frame) (below :
 
   pub does_keep : (i : Instruction) → Does class i pc memory f below out → KeepsObjects memory.heap out.memory.heap
   does_keep op.Nop h = quietly _ h refl
-  does_keep op.Null h = quietly _ h refl
-  does_keep op.Constant h = quietly _ h refl
-  does_keep (op.LoadWord local) h = quietly _ h.3 refl
-  does_keep (op.LoadReference local) h = quietly _ h.3 refl
-  does_keep (op.StoreWord local) h = quietly _ h.4 refl
-  does_keep (op.StoreReference local) h = quietly _ h.4 refl
+  does_keep op.PushNull h = quietly _ h refl
+  does_keep op.PushWord h = quietly _ h refl
+  does_keep (op.Load kind local) h = quietly _ h.3 refl
+  does_keep (op.Store kind local) h = quietly _ h.4 refl
   does_keep op.Pop h = quietly _ h.3 refl
   does_keep op.Dup h = quietly _ h.3 refl
   does_keep op.Combine h = quietly _ h.2 refl
@@ -66,9 +64,7 @@ module _ (class : ObjectClass) (pc : ℕ) (memory : Memory) (f : Frame) (below :
   does_keep (op.InvokeStatic place) h = quietly _ h.1.5 refl
   does_keep op.InvokeObjectInit h = quietly _ h.5 refl
   does_keep op.New h = rw h (keeps_push memory.heap _)
-  does_keep op.ReturnWord h = quietly _ h.4.2 refl
-  does_keep op.ReturnReference h = quietly _ h.4.2 refl
-  does_keep op.Return h = quietly _ h.2 refl
+  does_keep (op.Return result) h = quietly _ h.4.2 refl
 
 pub step_keeps : (class : ObjectClass) (old : State) (event : Event) (calls : List MethodCall) (new : State) → Step class old event calls new
     → KeepsObjects old.memory.heap new.memory.heap

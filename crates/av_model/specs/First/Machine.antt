@@ -11,6 +11,7 @@ use Rattle.jv_form.specs.declared.object_class.Field.{Field}
 use Rattle.jv_form.specs.declared.object_class.Method.{Method}
 use Rattle.jv_form.specs.declared.object_class.ObjectClass.{ObjectClass}
 use Rattle.jv_form.specs.Flags.{IsPublic, IsStatic}
+use Rattle.jv_form.specs.Kinds.{result_kinds}
 use Rattle.jv_form.specs.Form.{main_desc}
 
 -- ---- the state
@@ -202,16 +203,12 @@ Leaves class memory below result out =
 -- can only throw
 abbrev pub Does : ObjectClass → Instruction → ℕ → Memory → Frame → List Frame → Outcome → Type 0
 Does class op.Nop pc memory f below out = out ≡ quiet memory (next f f.stack) below
-Does class op.Null pc memory f below out = out ≡ quiet memory (next f (f.stack ++ Null ∷ [])) below
-Does class op.Constant pc memory f below out = out ≡ quiet memory (next f (f.stack ++ Int ∷ [])) below
-Does class (op.LoadWord local) pc memory f below out =
-    (cell : Cell) × (f.locals local ≡ Some cell) × Fits kind.Word cell × (out ≡ quiet memory (next f (f.stack ++ cell ∷ [])) below)
-Does class (op.LoadReference local) pc memory f below out =
-    (cell : Cell) × (f.locals local ≡ Some cell) × Fits kind.Reference cell × (out ≡ quiet memory (next f (f.stack ++ cell ∷ [])) below)
-Does class (op.StoreWord local) pc memory f below out =
-    (rest : List Cell) × (cell : Cell) × (f.stack ≡ rest ++ cell ∷ []) × Fits kind.Word cell × (out ≡ quiet memory (next_stored f local cell rest) below)
-Does class (op.StoreReference local) pc memory f below out =
-    (rest : List Cell) × (cell : Cell) × (f.stack ≡ rest ++ cell ∷ []) × Fits kind.Reference cell × (out ≡ quiet memory (next_stored f local cell rest) below)
+Does class op.PushNull pc memory f below out = out ≡ quiet memory (next f (f.stack ++ Null ∷ [])) below
+Does class op.PushWord pc memory f below out = out ≡ quiet memory (next f (f.stack ++ Int ∷ [])) below
+Does class (op.Load kind local) pc memory f below out =
+    (cell : Cell) × (f.locals local ≡ Some cell) × Fits kind cell × (out ≡ quiet memory (next f (f.stack ++ cell ∷ [])) below)
+Does class (op.Store kind local) pc memory f below out =
+    (rest : List Cell) × (cell : Cell) × (f.stack ≡ rest ++ cell ∷ []) × Fits kind cell × (out ≡ quiet memory (next_stored f local cell rest) below)
 Does class op.Pop pc memory f below out =
     (rest : List Cell) × (cell : Cell) × (f.stack ≡ rest ++ cell ∷ []) × (out ≡ quiet memory (next f rest) below)
 Does class op.Dup pc memory f below out =
@@ -245,11 +242,8 @@ Does class op.InvokeObjectInit pc memory f below out =
 Does class op.New pc memory f below out =
     out ≡ quiet (record memory { heap = memory.heap ++ record { making = New f.method pc; fields = zero_field class } ∷ [] })
         (next f (f.stack ++ Object (length memory.heap) ∷ [])) below
-Does class op.ReturnWord pc memory f below out =
-    (rest : List Cell) × (cell : Cell) × (f.stack ≡ rest ++ cell ∷ []) × Fits kind.Word cell × Leaves class memory below (cell ∷ []) out
-Does class op.ReturnReference pc memory f below out =
-    (rest : List Cell) × (cell : Cell) × (f.stack ≡ rest ++ cell ∷ []) × Fits kind.Reference cell × Leaves class memory below (cell ∷ []) out
-Does class op.Return pc memory f below out = Leaves class memory below [] out
+Does class (op.Return result) pc memory f below out =
+    (rest : List Cell) × (words : List Cell) × (f.stack ≡ rest ++ words) × AllZip Fits (result_kinds result) words × Leaves class memory below words out
 
 -- ---- runs
 

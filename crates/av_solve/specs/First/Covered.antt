@@ -9,6 +9,7 @@ use Rattle.jv_types.specs.declared.fact.CallFrom.TheVariants as from
 use Rattle.jv_types.specs.declared.fact.Fact.{Fact}
 use Rattle.jv_types.specs.declared.fact.Fact.TheVariants.{Edge, Pt}
 use Rattle.jv_form.specs.declared.object_class.ObjectClass.{ObjectClass}
+use Rattle.jv_form.specs.Kinds.{IsKindSafe}
 use Rattle.av_model.specs.First.Machine.{Cell, Object, New, HeapObject, Frame, State, Event, Origin, Library, Site, Target, Own, ObjectInit, MethodCall, IsRun}
 use Rattle.av_solve.specs.First.Names.{own, own_field, object_init, new_at, InLocal, OnStack, slot_place, pc_at}
 use Rattle.av_solve.specs.First.Rules.{Has, IsClosed}
@@ -55,6 +56,6 @@ abbrev pub CoverAllRuns : ObjectClass → (Fact → Bool) → Type 0
 CoverAllRuns class set = (events : List Event) (calls : List MethodCall) (end : State) → IsRun class events calls end
     → CallsCovered set calls × IsCovered class set end
 
--- closed facts cover all runs
+-- closed facts of a class whose methods have their walks of kinds cover all its runs
 abbrev pub ClosedCover : Type 0
-ClosedCover = (class : ObjectClass) (set : Fact → Bool) → IsClosed class set → CoverAllRuns class set
+ClosedCover = (class : ObjectClass) (set : Fact → Bool) → IsKindSafe class → IsClosed class set → CoverAllRuns class set

@@ -1,5 +1,5 @@
 -- How facts name the methods, fields, objects and words of one class.
-use Rattle.std.specs.Prelude.{ℕ, List, Option, Some, None}
+use Rattle.std.specs.Prelude.{ℕ, List, [], Option, Some, None}
 use Rattle.std.specs.List.{slice_get}
 use Rattle.jv_types.specs.declared.ids.FieldId.{FieldId}
 use Rattle.jv_types.specs.declared.ids.MethodId.{MethodId}
@@ -36,7 +36,18 @@ abbrev pub slot_place : ℕ → ℕ → Slot → Place
 slot_place method pc (InLocal word) = place.Local (own method) pc word
 slot_place method pc (OnStack word) = place.Stack (own method) pc word
 
+abbrev pub code_of : Option Method → List Placed
+code_of None = []
+code_of (Some m) = m.code
+
+-- the code of the method at a place, and no instruction where there is none
+abbrev pub code_at : ObjectClass → ℕ → List Placed
+code_at class method = code_of (slice_get class.methods method)
+
+abbrev pub pc_of : Option Placed → ℕ
+pc_of None = 0
+pc_of (Some p) = p.pc
+
 -- the offset of the instruction at an index of the code of the method at a place, and 0 past its end
-unfoldable pub pc_at : ObjectClass → ℕ → ℕ → ℕ
-pc_at class method index =
-    elim (slice_get class.methods method) [ None ↦ 0 | Some m ↦ elim (slice_get m.code index) [ None ↦ 0 | Some p ↦ p.pc ] ]
+abbrev pub pc_at : ObjectClass → ℕ → ℕ → ℕ
+pc_at class method index = pc_of (slice_get (code_at class method) index)
