@@ -1,0 +1,4 @@
+//! The machine on which the promises about runs are stated.
+#![tactic(auto)]
+
+pub mod first;

@@ -1,0 +1,5 @@
+-- The facts of one class, closed under named rules, and what they cover.
+pub mod Names
+pub mod Depths
+pub mod Rules
+pub mod Covered

@@ -1,0 +1,7 @@
+ghost use Rattle.av_solve.specs.First.Covered.{ClosedCover};
+
+/// The law of coverage: facts that are closed under the rules cover each run, its calls and the objects
+/// that stand in frames, in static fields and in the fields of objects.
+pub fn closed_facts_cover()
+    ensures { ClosedCover }
+{}
