@@ -1,14 +1,16 @@
 -- What is said of the bytes that were read holds of the whole file.
-use Rattle.std.proofs.Common.{◌≡◌, ℕ, ◌≤◌, ◌⊎◌, inl, inr, List, length, take, Option, Some, None, refl, sym, subst, arith}
+use Rattle.std.proofs.Common.{◌≡◌, ℕ, ◌≤◌, ◌⊎◌, ⊎_elim, inl, inr, List, length, take, Option, Some, None, refl, sym, subst, arith}
 use Rattle.std.specs.Prelude.{IfSome, option_map}
 use Rattle.std.proofs.lemmas.List.{length-take, take_all}
+use Rattle.std.proofs.lemmas.Bool.{cases_lt}
 use Rattle.jv_host.specs.declared.host.HostFile.{HostFile}
 use Rattle.jv_host.specs.Files.{bytes_of}
-use Rattle.jv_form.specs.Form.{file_limit, IsStaticClass}
+use Rattle.jv_form.specs.Form.{file_limit}
 use Rattle.av_cli.specs.declared.status.Answer.{Answer}
-use Rattle.av_cli.specs.declared.status.Answer.TheVariants.{Printed, Misused, Unreadable, NoFile, OutsideForm, NoMain, Unwritable, OutOfMemory}
+use Rattle.av_cli.specs.declared.status.Answer.TheVariants.{Printed, Misused, Unreadable, NoFile, TooLarge, NotClass, OutsideForm, NoMain, Unwritable, OutOfMemory}
 use Rattle.av_cli.specs.Handing.{SinkState}
 use Rattle.av_cli.specs.Answers.{file_name, file_most}
+use Rattle.av_cli.specs.FileStart.{IsTooLarge}
 use Rattle.av_cli.specs.Ending.{Outside, Prints, ConcludesBytes, Concludes}
 
 -- a file that isn't too long is read whole
@@ -21,11 +23,22 @@ pub take-whole : (bytes : List ℕ) → length (take file_most bytes) ≤ file_l
 unfolding file_most
 take-whole bytes le = take_all 16777217 bytes (omega (arith, length-take 16777217 bytes))
 
+-- a file is too long where what is read of it is
+too_large-whole : (bytes : List ℕ) → IsTooLarge (take file_most bytes) → IsTooLarge bytes
+unfolding file_most
+too_large-whole bytes large = omega (arith, length-take 16777217 bytes, large)
+
+not_too_large : (bytes : List ℕ) → ¬ IsTooLarge bytes → length bytes ≤ file_limit
+not_too_large bytes not = ⊎_elim (λ large. absurd (not large)) (λ le. le) (cases_lt file_limit (length bytes))
+
 pub Prints-whole : (name bytes : List ℕ) (old new : SinkState) (answer : Answer) → Prints name (take file_most bytes) old new answer → Prints name bytes old new answer
 Prints-whole name bytes old new Printed p =
     subst (λ (b : List ℕ). Prints name b old new Printed) (take-whole bytes p.1.is_class.short) p
+Prints-whole name bytes old new TooLarge p = (too_large-whole bytes p.0, p.1)
+Prints-whole name bytes old new NotClass p =
+    subst (λ (b : List ℕ). Prints name b old new NotClass) (take-whole bytes (not_too_large (take file_most bytes) p.0.0)) p
 Prints-whole name bytes old new OutsideForm p =
-    (λ form. p.0 (form.0, subst (λ (b : List ℕ). IsStaticClass name b form.0) (sym (take-short bytes form.1.short)) form.1), p.1)
+    subst (λ (b : List ℕ). Prints name b old new OutsideForm) (take-whole bytes (not_too_large (take file_most bytes) p.0.0)) p
 Prints-whole name bytes old new NoMain p =
     subst (λ (b : List ℕ). Prints name b old new NoMain) (take-whole bytes p.0.0.1.short) p
 Prints-whole name bytes old new Unwritable p =
@@ -61,6 +74,8 @@ concludes_bytes o root name read answer h p =
 
 from_bytes : (o : Outside) (root name : List ℕ) (answer : Answer) → ConcludesBytes o root name answer → Concludes o root name answer
 from_bytes o root name Printed c = c
+from_bytes o root name TooLarge c = c
+from_bytes o root name NotClass c = c
 from_bytes o root name OutsideForm c = c
 from_bytes o root name NoMain c = c
 from_bytes o root name Unwritable c = c

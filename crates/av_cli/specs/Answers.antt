@@ -4,7 +4,7 @@ use Rattle.jv_bytes.specs.Shown.{shown_text}
 use Rattle.av_cli.specs.declared.status.Status.{Status}
 use Rattle.av_cli.specs.declared.status.Status.TheVariants.{Done, Refused, Usage, ReadFault, WriteFault, Limit, Memory}
 use Rattle.av_cli.specs.declared.status.Answer.{Answer}
-use Rattle.av_cli.specs.declared.status.Answer.TheVariants.{Printed, Misused, Unreadable, NoFile, OutsideForm, NoMain, Unwritable, OutOfMemory}
+use Rattle.av_cli.specs.declared.status.Answer.TheVariants.{Printed, Misused, Unreadable, NoFile, TooLarge, NotClass, OutsideForm, NoMain, Unwritable, OutOfMemory}
 
 -- the number with which the process ends
 abbrev pub code_of : Status → ℕ
@@ -21,6 +21,8 @@ status_of Printed = Done
 status_of Misused = Usage
 status_of Unreadable = ReadFault
 status_of NoFile = Refused
+status_of TooLarge = Limit
+status_of NotClass = Refused
 status_of OutsideForm = Refused
 status_of NoMain = Refused
 status_of Unwritable = WriteFault
@@ -51,6 +53,8 @@ error_line name Printed = []
 error_line name Misused = codes "averroes: usage: calls ROOT NAME" ++ 10 ∷ []
 error_line name Unreadable = codes "averroes: read fault " ++ shown_text (file_name name) ++ 10 ∷ []
 error_line name NoFile = codes "averroes: refused 20 NoMain " ++ shown_text name ++ 10 ∷ []
+error_line name TooLarge = codes "averroes: limit file-bytes 16777216" ++ 10 ∷ []
+error_line name NotClass = codes "averroes: refused 1 NotClass " ++ shown_text (file_name name) ++ 10 ∷ []
 error_line name OutsideForm = codes "averroes: refused 22 NotBuiltYet " ++ shown_text (file_name name) ++ 10 ∷ []
 error_line name NoMain = codes "averroes: refused 20 NoMain " ++ shown_text name ++ 10 ∷ []
 error_line name Unwritable = codes "averroes: write fault report" ++ 10 ∷ []

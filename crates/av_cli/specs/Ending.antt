@@ -10,9 +10,10 @@ use Rattle.jv_form.specs.declared.static_class.StaticClass.{StaticClass}
 use Rattle.jv_form.specs.Form.{IsStaticClass}
 use Rattle.av_cli.specs.declared.status.Status.{Status}
 use Rattle.av_cli.specs.declared.status.Answer.{Answer}
-use Rattle.av_cli.specs.declared.status.Answer.TheVariants.{Printed, Misused, Unreadable, NoFile, OutsideForm, NoMain, Unwritable, OutOfMemory}
+use Rattle.av_cli.specs.declared.status.Answer.TheVariants.{Printed, Misused, Unreadable, NoFile, TooLarge, NotClass, OutsideForm, NoMain, Unwritable, OutOfMemory}
 use Rattle.av_cli.specs.Machine.{IsMain}
 use Rattle.av_cli.specs.Promise.{IsCallGraph}
+use Rattle.av_cli.specs.FileStart.{IsTooLarge, HasMagic}
 use Rattle.av_cli.specs.Handing.{SinkState, Takes, TakesFront, AreCountsKept}
 use Rattle.av_cli.specs.Answers.{status_of, file_name, file_most, request, class_of_words, error_line}
 
@@ -33,6 +34,14 @@ HasFile o root name bytes = IfSome o.files (λ told. bytes_of told root (file_na
 abbrev pub IsInForm : List ℕ → List ℕ → Type 0
 IsInForm name bytes = (class : StaticClass) × IsStaticClass name bytes class
 
+-- the file isn't too long, and doesn't begin as a class file
+abbrev pub IsNoClass : List ℕ → Type 0
+IsNoClass bytes = (¬ IsTooLarge bytes) × (¬ HasMagic bytes)
+
+-- the file isn't too long and begins as a class file, and isn't in the form
+abbrev pub IsOutsideForm : List ℕ → List ℕ → Type 0
+IsOutsideForm name bytes = (¬ IsTooLarge bytes) × HasMagic bytes × (¬ IsInForm name bytes)
+
 -- the class declares its own public static main
 abbrev pub DeclaresMain : StaticClass → Type 0
 DeclaresMain class = (place : ℕ) × IsMain class place
@@ -48,7 +57,9 @@ NothingPrinted o = o.out_after ≡ o.out_before
 abbrev pub Prints : List ℕ → List ℕ → SinkState → SinkState → Answer → Type 0
 -- the lines of the class were printed, and nothing else, and no print failed
 Prints name bytes old new Printed = (text : List ℕ) × IsCallGraph name bytes text × Takes old new text × AreCountsKept old new
-Prints name bytes old new OutsideForm = (¬ IsInForm name bytes) × (new ≡ old)
+Prints name bytes old new TooLarge = IsTooLarge bytes × (new ≡ old)
+Prints name bytes old new NotClass = IsNoClass bytes × (new ≡ old)
+Prints name bytes old new OutsideForm = IsOutsideForm name bytes × (new ≡ old)
 Prints name bytes old new NoMain = LacksMain name bytes × (new ≡ old)
 -- the printed output failed behind a front of the lines
 Prints name bytes old new Unwritable =
@@ -68,6 +79,8 @@ ConcludesBytes o root name answer =
 -- what an answer says, where the words name a root and a class
 abbrev pub Concludes : Outside → List ℕ → List ℕ → Answer → Type 0
 Concludes o root name Printed = ConcludesBytes o root name Printed
+Concludes o root name TooLarge = ConcludesBytes o root name TooLarge
+Concludes o root name NotClass = ConcludesBytes o root name NotClass
 Concludes o root name OutsideForm = ConcludesBytes o root name OutsideForm
 Concludes o root name NoMain = ConcludesBytes o root name NoMain
 Concludes o root name Unwritable = ConcludesBytes o root name Unwritable
@@ -95,9 +108,15 @@ IsDue words told Printed =
     × (bytes_of told root (file_name name) ≡ Some bytes) × IsStaticClass name bytes class × DeclaresMain class
 IsDue words told Misused = AreMisused words
 IsDue words told NoFile = (root : List ℕ) × (name : List ℕ) × (words ≡ request root name) × (bytes_of told root (file_name name) ≡ None)
+IsDue words told TooLarge =
+    (root : List ℕ) × (name : List ℕ) × (bytes : List ℕ) × (words ≡ request root name)
+    × (bytes_of told root (file_name name) ≡ Some bytes) × IsTooLarge bytes
+IsDue words told NotClass =
+    (root : List ℕ) × (name : List ℕ) × (bytes : List ℕ) × (words ≡ request root name)
+    × (bytes_of told root (file_name name) ≡ Some bytes) × IsNoClass bytes
 IsDue words told OutsideForm =
     (root : List ℕ) × (name : List ℕ) × (bytes : List ℕ) × (words ≡ request root name)
-    × (bytes_of told root (file_name name) ≡ Some bytes) × ¬ IsInForm name bytes
+    × (bytes_of told root (file_name name) ≡ Some bytes) × IsOutsideForm name bytes
 IsDue words told NoMain =
     (root : List ℕ) × (name : List ℕ) × (bytes : List ℕ) × (words ≡ request root name)
     × (bytes_of told root (file_name name) ≡ Some bytes) × LacksMain name bytes

@@ -4,6 +4,7 @@ pub mod Lines
 pub mod Promise
 pub mod Answers
 pub mod Handing
+pub mod FileStart
 pub mod Ending
 pub mod Graphs
 pub mod Marks

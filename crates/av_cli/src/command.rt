@@ -65,6 +65,8 @@ fn print_calls<O: Sink>(alloc: Global, name: &[u8], bytes: &[u8], out: &mut O) -
     let lines = match call_graph(alloc, name, bytes) {
         Ok(lines) => lines,
         Err(GraphError::Memory) => return Answer::OutOfMemory,
+        Err(GraphError::TooLarge) => return Answer::TooLarge,
+        Err(GraphError::NotClass) => return Answer::NotClass,
         Err(GraphError::OutsideForm) => return Answer::OutsideForm,
         Err(GraphError::NoMain) => return Answer::NoMain,
     };

@@ -19,6 +19,8 @@ pub fn write_answer<E: Sink>(err: &mut E, answer: Answer, name: &[u8]) -> Result
         Answer::Misused => write_whole(err, b"averroes: usage: calls ROOT NAME\n"),
         Answer::Unreadable => write_about(err, b"averroes: read fault ", name, b".class\n"),
         Answer::NoFile => write_about(err, b"averroes: refused 20 NoMain ", name, b"\n"),
+        Answer::TooLarge => write_whole(err, b"averroes: limit file-bytes 16777216\n"),
+        Answer::NotClass => write_about(err, b"averroes: refused 1 NotClass ", name, b".class\n"),
         Answer::OutsideForm => {
             write_about(err, b"averroes: refused 22 NotBuiltYet ", name, b".class\n")
         }

@@ -48,6 +48,10 @@ pub enum Answer {
     Unreadable,
     /// There is no such file.
     NoFile,
+    /// The file is longer than a class file may be.
+    TooLarge,
+    /// The bytes don't begin as those of a class file.
+    NotClass,
     /// The bytes aren't of the form.
     OutsideForm,
     /// The class has no public static `main` of its own.
@@ -68,6 +72,8 @@ impl Answer {
             Answer::Misused => Status::Usage,
             Answer::Unreadable => Status::ReadFault,
             Answer::NoFile => Status::Refused,
+            Answer::TooLarge => Status::Limit,
+            Answer::NotClass => Status::Refused,
             Answer::OutsideForm => Status::Refused,
             Answer::NoMain => Status::Refused,
             Answer::Unwritable => Status::WriteFault,

@@ -70,9 +70,9 @@ fn sink(rt: &impl Abort, alloc: Global, step: usize, fail: &[u64]) -> Result<Mem
 
 /// A run over `app`, and what it has to give.
 #[derive(Clone, Copy)]
-struct Row {
+struct Row<'a> {
     words: [&'static str; 3],
-    bytes: &'static [u8],
+    bytes: &'a [u8],
     host_fail: &'static [u64],
     step: usize,
     out_fail: &'static [u64],
@@ -82,7 +82,7 @@ struct Row {
     err: &'static str,
 }
 
-const DONE: Row = Row {
+const DONE: Row<'static> = Row {
     words: ["calls", "app", "p/A"],
     bytes: &CALLS_F,
     host_fail: &[],
@@ -94,7 +94,7 @@ const DONE: Row = Row {
     err: "",
 };
 
-fn check(rt: &impl Abort, alloc: Global, row: &Row) -> Result<(), AllocError> {
+fn check(rt: &impl Abort, alloc: Global, row: &Row<'_>) -> Result<(), AllocError> {
     let mut host = host(rt, alloc, row.bytes, row.host_fail)?;
     let mut out = sink(rt, alloc, row.step, row.out_fail)?;
     let mut err = sink(rt, alloc, row.step, row.err_fail)?;
@@ -120,6 +120,8 @@ fn refuses_and_says_why(rt: HostRuntime) -> Result<(), Fail> {
         out: "",
         ..DONE
     };
+    let mut other_start = CALLS_F;
+    other_start[0] = 0;
     let rows = [
         Row {
             words: ["calls", "app", "a b%"],
@@ -129,6 +131,11 @@ fn refuses_and_says_why(rt: HostRuntime) -> Result<(), Fail> {
         Row {
             bytes: &HAS_FIELD,
             err: "averroes: refused 22 NotBuiltYet p/A.class\n",
+            ..refused
+        },
+        Row {
+            bytes: &other_start,
+            err: "averroes: refused 1 NotClass p/A.class\n",
             ..refused
         },
         Row {

@@ -1,4 +1,4 @@
-use Rattle.std.proofs.Common.{ap, ◌∙◌}
+use Rattle.std.proofs.Common.{arith, refl, ap, ◌∙◌}
 use Rattle.std.specs.Prelude.{not}
 use Rattle.av_cli.proofs.CallGraph.{IsCallGraph-lines}
 use Rattle.av_cli.proofs.Classified.{malformed_out, no_main, has_main, lacks_main}
@@ -6,7 +6,7 @@ use Rattle.av_cli.proofs.graph.call_graph.Goals as goal
 
 pub returns-in-Err-Malformed : goal.returns-in-Err-Malformed
 returns-in-Err-Malformed c =
-    malformed_out c.args.name.now c.args.bytes.now c.in-Err-Malformed.field-0 c.in-Err-Malformed.field-0-is c.in-Err-Malformed.ensures.malformed
+    (λ large. omega (arith, large, c.if-bytes-gt-FILE_LIMIT.false), c.if-not-has_magic.ensures.0 refl, malformed_out c.args.name.now c.args.bytes.now c.in-Err-Malformed.field-0 c.in-Err-Malformed.field-0-is c.in-Err-Malformed.ensures.malformed)
 
 pub returns-then-is_none : goal.returns-then-is_none
 returns-then-is_none c =

@@ -11,6 +11,13 @@ pub returns-in-NoFile-clause-said : goal.returns-in-NoFile-clause-said
 returns-in-NoFile-clause-said g c =
     rw c.in-NoFile.is (Handed-is _ _ _ _ _ (line_of_name (codes "averroes: refused 20 NoMain ") c.args.name.now) c.write_about-in-NoFile.ensures.handed)
 
+pub returns-in-TooLarge-clause-said : goal.returns-in-TooLarge-clause-said
+returns-in-TooLarge-clause-said g c = rw c.in-TooLarge.is c.write_whole-in-TooLarge.ensures.handed
+
+pub returns-in-NotClass-clause-said : goal.returns-in-NotClass-clause-said
+returns-in-NotClass-clause-said g c =
+    rw c.in-NotClass.is (Handed-is _ _ _ _ _ (line_of_file (codes "averroes: refused 1 NotClass ") c.args.name.now) c.write_about-in-NotClass.ensures.handed)
+
 pub returns-in-OutsideForm-clause-said : goal.returns-in-OutsideForm-clause-said
 returns-in-OutsideForm-clause-said g c =
     rw c.in-OutsideForm.is (Handed-is _ _ _ _ _ (line_of_file (codes "averroes: refused 22 NotBuiltYet ") c.args.name.now) c.write_about-in-OutsideForm.ensures.handed)
