@@ -10,10 +10,10 @@ use Rattle.std.proofs.lemmas.Option.{slice_get_within, same_Some, none-some}
 use Rattle.std.proofs.lemmas.Map.Keys.{Less-from_sorted}
 use Rattle.std.proofs.lemmas.Map.Lookups.{exact_bytes}
 use Rattle.std.proofs.lemmas.Map.Views.{btree_set_contains_iff, tells_apart}
-use Rattle.jv_form.specs.declared.static_class.Instruction.TheVariants.{Call}
-use Rattle.jv_form.specs.declared.static_class.Method.{Method}
-use Rattle.jv_form.specs.declared.static_class.Placed.{Placed}
-use Rattle.jv_form.specs.declared.static_class.StaticClass.{StaticClass}
+use Rattle.jv_static.specs.declared.static_class.Instruction.TheVariants.{Call}
+use Rattle.jv_static.specs.declared.static_class.Method.{Method}
+use Rattle.jv_static.specs.declared.static_class.Placed.{Placed}
+use Rattle.jv_static.specs.declared.static_class.StaticClass.{StaticClass}
 use Rattle.av_cli.specs.Marks.{IsMainMethod}
 use Rattle.av_cli.specs.Lines.{library_line, call_line, IsLine, AreLines}
 use Rattle.av_cli.specs.Adding.{AddsLines, IsInstructionLine, IsCodeLine, IsMainLine, IsMethodLine, IsFrontLine}

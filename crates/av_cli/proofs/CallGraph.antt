@@ -1,7 +1,7 @@
 -- What is promised of a class's text, from the lines of the class.
 use Rattle.std.proofs.Common.{◌≡◌, ℕ, Bool, List, refl}
-use Rattle.jv_form.specs.declared.static_class.StaticClass.{StaticClass}
-use Rattle.jv_form.specs.Form.{IsStaticClass}
+use Rattle.jv_static.specs.declared.static_class.StaticClass.{StaticClass}
+use Rattle.jv_static.specs.Form.{IsStaticClass}
 use Rattle.av_cli.specs.Machine.{IsMain, start}
 use Rattle.av_cli.specs.Marks.{AreCallsInRange}
 use Rattle.av_cli.specs.Reach.{IsLeast}

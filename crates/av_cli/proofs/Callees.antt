@@ -2,8 +2,8 @@
 use Rattle.std.proofs.Common.{◌≡◌, ℕ, ◌+◌, ◌<◌, ◌⊎◌, Bool, List, [], ◌∷◌, length, get_or, take, Contains, sym, ◌∙◌, ap, inl, inr, ⊎_elim, arith}
 use Rattle.std.proofs.lemmas.List.{take_more}
 use Rattle.std.proofs.lemmas.List.Elements.{Contains-get_or, Contains-append_left, Contains-push, Contains-push_cases}
-use Rattle.jv_form.specs.declared.static_class.Instruction.TheVariants.{Call}
-use Rattle.jv_form.specs.declared.static_class.Placed.{Placed}
+use Rattle.jv_static.specs.declared.static_class.Instruction.TheVariants.{Call}
+use Rattle.jv_static.specs.declared.static_class.Placed.{Placed}
 use Rattle.av_cli.specs.Marks.{HasCallee, AreCalleesBelow, MarksAll}
 use Rattle.av_cli.proofs.Marking.{MarksAll-same, MarksAll-then}
 

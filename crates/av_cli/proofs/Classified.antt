@@ -1,10 +1,10 @@
 -- What the reader and the search for main say of bytes.
 use Rattle.std.proofs.Common.{◌≡◌, ℕ, true, false, List, Option, Some, None, Result, Err, ap, subst}
 use Rattle.std.specs.Prelude.{IfSome, IfNone, is_some}
-use Rattle.jv_form.specs.declared.static_class.StaticClass.{StaticClass}
-use Rattle.jv_form.specs.declared.read_error.ReadError.{ReadError}
-use Rattle.jv_form.specs.declared.read_error.ReadError.TheVariants.{Malformed}
-use Rattle.jv_form.specs.Form.{IsStaticClass}
+use Rattle.jv_static.specs.declared.static_class.StaticClass.{StaticClass}
+use Rattle.jv_static.specs.declared.read_error.ReadError.{ReadError}
+use Rattle.jv_static.specs.declared.read_error.ReadError.TheVariants.{Malformed}
+use Rattle.jv_static.specs.Form.{IsStaticClass}
 use Rattle.av_cli.specs.Machine.{IsMain}
 use Rattle.av_cli.specs.Ending.{IsInForm, DeclaresMain, LacksMain}
 

@@ -3,8 +3,8 @@ use Rattle.std.proofs.Common.{◌≡◌, ℕ, ◌⊎◌, inl, inr, arith, List, 
 use Rattle.std.specs.Prelude.{IfSome}
 use Rattle.jv_host.specs.declared.host.HostFile.{HostFile}
 use Rattle.jv_host.specs.Files.{bytes_of}
-use Rattle.jv_form.specs.declared.static_class.StaticClass.{StaticClass}
-use Rattle.jv_form.specs.Form.{IsStaticClass}
+use Rattle.jv_static.specs.declared.static_class.StaticClass.{StaticClass}
+use Rattle.jv_static.specs.Form.{IsStaticClass}
 use Rattle.av_cli.specs.declared.status.Answer.{Answer}
 use Rattle.av_cli.specs.declared.status.Answer.TheVariants.{Printed, Misused, Unreadable, NoFile, TooLarge, NotClass, OutsideForm, NoMain, Unwritable, OutOfMemory}
 use Rattle.av_cli.specs.Answers.{file_name, request}

@@ -3,12 +3,12 @@ use Rattle.std.proofs.Common.{◌≡◌, ℕ, zero, suc, ◌+◌, ◌<◌, List,
 use Rattle.std.specs.List.{slice_get, AllZip, AllByRecursion}
 use Rattle.std.proofs.lemmas.List.Elements.{All-from_recursion, All-contains}
 use Rattle.std.proofs.lemmas.Option.{none-some, same_Some, slice_get_within}
-use Rattle.jv_form.specs.declared.outline.Entry.{Entry}
-use Rattle.jv_form.specs.declared.static_class.Instruction.{Instruction}
-use Rattle.jv_form.specs.declared.static_class.Instruction.TheVariants.{Plain, Call, Return}
-use Rattle.jv_form.specs.declared.static_class.Placed.{Placed}
-use Rattle.jv_form.specs.declared.static_class.StaticClass.{StaticClass}
-use Rattle.jv_form.specs.Form.{IsInstruction, AreInstructions, IsMethodOf, IsStaticClass}
+use Rattle.jv_static.specs.declared.outline.Entry.{Entry}
+use Rattle.jv_static.specs.declared.static_class.Instruction.{Instruction}
+use Rattle.jv_static.specs.declared.static_class.Instruction.TheVariants.{Plain, Call, Return}
+use Rattle.jv_static.specs.declared.static_class.Placed.{Placed}
+use Rattle.jv_static.specs.declared.static_class.StaticClass.{StaticClass}
+use Rattle.jv_static.specs.Form.{IsInstruction, AreInstructions, IsMethodOf, IsStaticClass}
 use Rattle.av_cli.specs.Marks.{AreCallsInRange}
 
 -- an element of the second of two lists that are alike has one of the first

@@ -3,8 +3,8 @@ use Rattle.std.proofs.Common.{◌≡◌, ℕ, ◌+◌, ◌<◌, ◌≤◌, ◌�
 use Rattle.std.proofs.lemmas.Bool.{cases_eq}
 use Rattle.std.specs.List.{slice_get}
 use Rattle.std.proofs.lemmas.Option.{slice_get_read, slice_get_within, same_Some}
-use Rattle.jv_form.specs.declared.static_class.Method.{Method}
-use Rattle.jv_form.specs.declared.static_class.StaticClass.{StaticClass}
+use Rattle.jv_static.specs.declared.static_class.Method.{Method}
+use Rattle.jv_static.specs.declared.static_class.StaticClass.{StaticClass}
 use Rattle.av_cli.specs.Machine.{IsMain}
 use Rattle.av_cli.specs.Marks.{IsMainMethod, HasCallee, HasCalleeAt, AreCallsInRange, AreCalleesBelow, MarksAll}
 use Rattle.av_cli.proofs.Marking.{MarksAll-same, MarksAll-then}

@@ -2,9 +2,9 @@
 use Rattle.std.proofs.Common.{◌≡◌, ℕ, Bool, IsTrue, List, [], ◌∷◌, ◌++◌, Contains, Some, refl, inl, inr, get_or}
 use Rattle.std.specs.List.{slice_get, AllByRecursion}
 use Rattle.std.proofs.lemmas.Option.{slice_get-get_or}
-use Rattle.jv_form.specs.declared.static_class.Instruction.TheVariants.{Call}
-use Rattle.jv_form.specs.declared.static_class.Method.{Method}
-use Rattle.jv_form.specs.declared.static_class.StaticClass.{StaticClass}
+use Rattle.jv_static.specs.declared.static_class.Instruction.TheVariants.{Call}
+use Rattle.jv_static.specs.declared.static_class.Method.{Method}
+use Rattle.jv_static.specs.declared.static_class.StaticClass.{StaticClass}
 use Rattle.av_cli.specs.Machine.{Frame, State, Event, Enter, Next, Invoke, Leave, Throw, Library, Site, MethodCall, InstructionAt, IsMain, go_on, Step, Leads}
 use Rattle.av_cli.specs.Marks.{AreCallsInRange}
 use Rattle.av_cli.specs.Reach.{IsClosed}

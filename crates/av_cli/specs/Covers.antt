@@ -1,7 +1,7 @@
 -- The laws of the machine: the form keeps calls in range, and lines of a closed set have each call of each run.
 use Rattle.std.specs.Prelude.{ℕ, Bool, List}
-use Rattle.jv_form.specs.declared.static_class.StaticClass.{StaticClass}
-use Rattle.jv_form.specs.Form.{IsStaticClass}
+use Rattle.jv_static.specs.declared.static_class.StaticClass.{StaticClass}
+use Rattle.jv_static.specs.Form.{IsStaticClass}
 use Rattle.av_cli.specs.Machine.{Event, MethodCall, IsRun}
 use Rattle.av_cli.specs.Marks.{AreCallsInRange}
 use Rattle.av_cli.specs.Reach.{IsClosed, IsLeast}

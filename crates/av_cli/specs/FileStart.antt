@@ -1,6 +1,6 @@
 -- What is asked of a file before its form: how long it is, and how it begins.
 use Rattle.std.specs.Prelude.{◌≡◌, ◌<◌, ℕ, List, ◌∷◌, length}
-use Rattle.jv_form.specs.Form.{file_limit}
+use Rattle.jv_static.specs.Form.{file_limit}
 
 -- the file is longer than a class file may be
 abbrev pub IsTooLarge : List ℕ → Type 0

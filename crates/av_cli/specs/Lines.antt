@@ -5,9 +5,9 @@ use Rattle.std.specs.Ordering.{nat_cmp}
 use Rattle.std.specs.declared.cmp.Ordering.TheVariants.{Less}
 use Rattle.std.specs.Cmp.Lexicographic.{slice_cmp}
 use Rattle.std.specs.Fmt.{decimal}
-use Rattle.jv_form.specs.declared.static_class.Instruction.TheVariants.{Call}
-use Rattle.jv_form.specs.declared.static_class.Method.{Method}
-use Rattle.jv_form.specs.declared.static_class.StaticClass.{StaticClass}
+use Rattle.jv_static.specs.declared.static_class.Instruction.TheVariants.{Call}
+use Rattle.jv_static.specs.declared.static_class.Method.{Method}
+use Rattle.jv_static.specs.declared.static_class.StaticClass.{StaticClass}
 use Rattle.av_cli.specs.Machine.{Origin, Library, Site, InstructionAt, IsMain}
 
 -- a method is its class, its name and its descriptor, divided by spaces

@@ -2,11 +2,11 @@
 -- makes (JVMS 2.6, 6.5). A word's value isn't kept.
 use Rattle.std.specs.Prelude.{◌≡◌, ℕ, ◌+◌, Bool, true, false, List, [], ◌∷◌, ◌++◌, Some, codes, Contains}
 use Rattle.std.specs.List.{slice_get}
-use Rattle.jv_form.specs.declared.static_class.Instruction.{Instruction}
-use Rattle.jv_form.specs.declared.static_class.Instruction.TheVariants.{Plain, Call, Return}
-use Rattle.jv_form.specs.declared.static_class.Method.{Method}
-use Rattle.jv_form.specs.declared.static_class.StaticClass.{StaticClass}
-use Rattle.jv_form.specs.Form.{IsPublic, IsStatic, main_desc}
+use Rattle.jv_static.specs.declared.static_class.Instruction.{Instruction}
+use Rattle.jv_static.specs.declared.static_class.Instruction.TheVariants.{Plain, Call, Return}
+use Rattle.jv_static.specs.declared.static_class.Method.{Method}
+use Rattle.jv_static.specs.declared.static_class.StaticClass.{StaticClass}
+use Rattle.jv_static.specs.Form.{IsPublic, IsStatic, main_desc}
 
 -- a method that is entered: its place in the class's list, and the offset of the instruction that it is at
 pub record Frame : Type 0 where

@@ -1,10 +1,10 @@
 -- A set of methods that is kept as a mark for each place, and the search that makes it.
 use Rattle.std.specs.Prelude.{◌≡◌, ℕ, ◌+◌, ◌<◌, ◌⊎◌, Bool, false, not, IsTrue, List, length, slice_index_or, codes, Contains, count_by}
-use Rattle.jv_form.specs.declared.static_class.Instruction.TheVariants.{Call}
-use Rattle.jv_form.specs.declared.static_class.Method.{Method}
-use Rattle.jv_form.specs.declared.static_class.Placed.{Placed}
-use Rattle.jv_form.specs.declared.static_class.StaticClass.{StaticClass}
-use Rattle.jv_form.specs.Form.{IsPublic, IsStatic, main_desc}
+use Rattle.jv_static.specs.declared.static_class.Instruction.TheVariants.{Call}
+use Rattle.jv_static.specs.declared.static_class.Method.{Method}
+use Rattle.jv_static.specs.declared.static_class.Placed.{Placed}
+use Rattle.jv_static.specs.declared.static_class.StaticClass.{StaticClass}
+use Rattle.jv_static.specs.Form.{IsPublic, IsStatic, main_desc}
 use Rattle.av_cli.specs.Machine.{InstructionAt, IsMain}
 use Rattle.av_cli.specs.Reach.{IsClosed}
 

@@ -1,8 +1,8 @@
 -- What is promised of the text that is printed for a class.
 use Rattle.std.specs.Prelude.{◌≡◌, ℕ, Bool, List, Contains}
 use Rattle.std.specs.List.{AllByRecursion}
-use Rattle.jv_form.specs.declared.static_class.StaticClass.{StaticClass}
-use Rattle.jv_form.specs.Form.{IsStaticClass}
+use Rattle.jv_static.specs.declared.static_class.StaticClass.{StaticClass}
+use Rattle.jv_static.specs.Form.{IsStaticClass}
 use Rattle.av_cli.specs.Machine.{Event, MethodCall, IsMain, IsRun}
 use Rattle.av_cli.specs.Reach.{IsLeast}
 use Rattle.av_cli.specs.Lines.{HasLine, AreLines, text_of_lines}

@@ -1,7 +1,7 @@
 -- The methods of a class that a run can enter: the least set that has main and the callees of its members.
 use Rattle.std.specs.Prelude.{ℕ, Bool, IsTrue}
-use Rattle.jv_form.specs.declared.static_class.Instruction.TheVariants.{Call}
-use Rattle.jv_form.specs.declared.static_class.StaticClass.{StaticClass}
+use Rattle.jv_static.specs.declared.static_class.Instruction.TheVariants.{Call}
+use Rattle.jv_static.specs.declared.static_class.StaticClass.{StaticClass}
 use Rattle.av_cli.specs.Machine.{InstructionAt, IsMain}
 
 -- a set of methods has each one at whose place it answers true

@@ -4,7 +4,7 @@ ghost use Rattle.av_cli.specs.Marks.{AreCallsInRange};
 
 use crate::lines::call_lines;
 use crate::reach::reached_methods;
-use jv_form::StaticClass;
+use jv_static::StaticClass;
 use jv_types::Name;
 use std::alloc::{AllocError, Global};
 use std::collections::BTreeSet;

@@ -4,7 +4,7 @@ ghost use Rattle.av_cli.specs.Graphs.{IsGraphOf};
 
 use crate::coverage::{class_lines, form_keeps_range};
 use crate::reach::main_place;
-use jv_form::{FILE_LIMIT, ReadError, one_static_class, read_static_class};
+use jv_static::{FILE_LIMIT, ReadError, one_static_class, read_static_class};
 use jv_types::Name;
 use std::alloc::{AllocError, Global};
 use std::collections::BTreeSet;

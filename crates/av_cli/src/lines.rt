@@ -4,7 +4,7 @@ ghost use Rattle.av_cli.specs.Marks.{marked};
 ghost use Rattle.av_cli.specs.Adding.{AddsLines, IsInstructionLine, IsCodeLine, IsMainLine, IsMethodLine};
 
 use crate::reach::is_main;
-use jv_form::{Instruction, Method, Placed, StaticClass};
+use jv_static::{Instruction, Method, Placed, StaticClass};
 use jv_types::Name;
 use std::alloc::{AllocError, Global};
 use std::collections::BTreeSet;

@@ -4,7 +4,7 @@ ghost use Rattle.av_cli.specs.Reach.{IsLeast};
 ghost use Rattle.av_cli.specs.Marks.{marked, unmarked_count, AreCallsInRange, AreCalleesBelow, HasCallee, HasCalleeAt, IsMainMethod, MarksAll};
 
 use bitflags::Flags;
-use jv_form::{Instruction, Method, Placed, StaticClass};
+use jv_static::{Instruction, Method, Placed, StaticClass};
 use jv_types::Access;
 use std::alloc::{AllocError, Global};
 

@@ -1,5 +1,5 @@
 use super::*;
-use jv_form::{Instruction, Method, Placed, StaticClass};
+use jv_static::{Instruction, Method, Placed, StaticClass};
 use jv_types::{Access, Name, Seq};
 use std::alloc::{AllocError, Global};
 use std::test::Fail;

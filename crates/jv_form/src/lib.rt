@@ -1,4 +1,4 @@
-//! The form of file that `calls` takes, a class with fields and methods over ints, itself and
+//! The wider form that `calls` is to take, a class with fields and methods over ints, itself and
 //! `java/lang/Object`, and its reader.
 #![tactic(auto)]
 

@@ -12,7 +12,7 @@ use Rattle.jv_form.specs.declared.object_class.Method.{Method}
 use Rattle.jv_form.specs.declared.object_class.ObjectClass.{ObjectClass}
 use Rattle.jv_form.specs.Flags.{IsPublic, IsStatic}
 use Rattle.jv_form.specs.Kinds.{result_kinds}
-use Rattle.jv_form.specs.Form.{main_desc}
+use Rattle.jv_form.specs.Descriptors.{main_desc}
 
 -- ---- the state
 

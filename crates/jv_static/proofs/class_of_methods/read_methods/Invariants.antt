@@ -1,0 +1,14 @@
+-- The methods before the place, and then those from there on, are all of them.
+use Rattle.std.proofs.Common.{◌≡◌, take, drop, All}
+use Rattle.jv_static.specs.declared.class_of_heads.Head.{Head}
+use Rattle.jv_static.specs.Classes.{IsBytes}
+use Rattle.jv_static.specs.ClassesBodies.{callee_in}
+use Rattle.jv_static.specs.ClassesHeads.{each, heading_of, method_at}
+use Rattle.jv_static.proofs.ClassesLoops.{with_front}
+use Rattle.jv_static.proofs.class_of_methods.read_methods.Given as goal
+
+abbrev pub invariant-loop-head : goal.invariant-loop-head
+invariant-loop-head l = record {
+  so_far : with_front l.methods.items (each (λ (h : Head). method_at l.pool (callee_in l.callees) (heading_of h)) (drop l.head-index l.heads)) ≡ each (λ (h : Head). method_at l.pool (callee_in l.callees) (heading_of h)) l.heads;
+  bytes : All (λ (h : Head). IsBytes h.code.now) (take l.head-index l.heads);
+}
