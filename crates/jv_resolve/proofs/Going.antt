@@ -1,13 +1,13 @@
 -- Going up depth first.
-use Rattle.std.proofs.Common.{◌≡◌, ℕ, zero, suc, ◌+◌, ◌<◌, ◌≤◌, List, [], ◌∷◌, ◌++◌, Option, Some, None, length, subst, sym, ◌∙◌, ap, arith, ◌⊎◌, inl, inr, refl, add-one}
+use Rattle.std.proofs.Common.{◌≡◌, ℕ, zero, suc, ◌+◌, ◌<◌, ◌≤◌, List, [], ◌∷◌, ◌++◌, Option, Some, None, length, subst, sym, ◌∙◌, ap, arith, inl, inr, refl, add-one}
 use Rattle.std.specs.Prelude.{option_to_list}
 use Rattle.std.specs.List.{slice_get, Contains}
 use Rattle.std.proofs.lemmas.Bool.{cases_lt}
 use Rattle.std.proofs.lemmas.Option.{slice_get_within}
 use Rattle.jv_types.specs.declared.shapes.Shape.{Shape}
-use Rattle.jv_world.specs.Worlds.{IsNamed, HasSuperclass, HasInterface, HasSuper, Sub, same, link, IsWorld}
+use Rattle.jv_world.specs.Worlds.{IsNamed, HasInterface, HasSuper, Sub, same, link, IsWorld}
 use Rattle.jv_resolve.specs.DepthFirst.{direct_supers, Leads, NoneLeads, IsFirstLeading, IsFirstWay, IsFirstBy, IsFirst}
-use Rattle.jv_resolve.proofs.Hierarchy.{one_shape, named_here, super_here, sub_trans, sub_cases, sub_from_super}
+use Rattle.jv_resolve.proofs.Hierarchy.{one_shape, super_here}
 use Rattle.jv_resolve.proofs.PlacesLemmas.{read_at, among_from_get}
 
 -- steps that each go the first way from a class that isn't such a one
