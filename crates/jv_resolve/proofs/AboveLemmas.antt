@@ -1,22 +1,21 @@
 -- What the searches above a class find, in terms of the relations.
-use Rattle.std.proofs.Common.{◌≡◌, ℕ, zero, suc, ◌<◌, List, Option, Some, None, length, get_or, map, subst, sym, ◌∙◌, ap, arith, ◌⊎◌, inl, inr, refl}
+use Rattle.std.proofs.Common.{◌≡◌, ℕ, zero, suc, ◌<◌, List, Option, Some, None, length, map, subst, sym, ◌∙◌, ap, ◌⊎◌, inl, inr, refl}
 use Rattle.std.specs.List.{slice_get, Contains}
-use Rattle.std.proofs.lemmas.Option.{slice_get-map, slice_get_within}
+use Rattle.std.proofs.lemmas.Option.{slice_get-map}
 use Rattle.std.specs.Option.{option_map}
 use Rattle.jv_types.specs.declared.desc.MethodDesc.{MethodDesc}
 use Rattle.jv_types.specs.declared.ids.ClassId.{ClassId}
 use Rattle.jv_types.specs.declared.ids.MethodId.{MethodId}
 use Rattle.jv_types.specs.declared.shapes.Shape.{Shape}
-use Rattle.jv_world.specs.Worlds.{IsNamed, Sub, same, link, IsWorld, object_name}
+use Rattle.jv_world.specs.Worlds.{Sub, same, link}
 use Rattle.jv_resolve.specs.Members.{DeclaresMethod}
-use Rattle.jv_resolve.specs.Inheriting.{Climbs, IsNearest, HasNone, IsInterfaceMethod, IsSuperinterfaceMethod, IsSingleDefault, HasNoSingleDefault}
+use Rattle.jv_resolve.specs.Inheriting.{IsNearest, HasNone, IsSingleDefault, HasNoSingleDefault}
 use Rattle.jv_resolve.specs.Among.{AreSuperinterfaceMethods, IsSingleAmong}
 use Rattle.jv_resolve.specs.Targets.{IsTarget, AreClasses}
-use Rattle.jv_resolve.specs.DepthFirst.{Leads, IsFirstLeading, IsFirstWay, IsFirstBy, IsFirst}
+use Rattle.jv_resolve.specs.DepthFirst.{Leads, IsFirstWay, IsFirstBy, IsFirst}
 use Rattle.jv_resolve.specs.Resolving.{DeclaresFor, ResolvesAbove, ResolvesInClass, IsObjectMethod, ResolvesInInterface}
 use Rattle.jv_resolve.proofs.Going.{way_super}
-use Rattle.jv_resolve.proofs.Hierarchy.{sub_from_super, sub_trans, sub_itself}
-use Rattle.jv_resolve.proofs.MembersLemmas.{declares_one, declared_here, class_here, class_is}
+use Rattle.jv_resolve.proofs.MembersLemmas.{declared_here, class_here, class_is}
 use Rattle.jv_resolve.proofs.PlacesLemmas.{read_at, among_from_get}
 use Rattle.jv_resolve.proofs.SuperinterfaceLemmas.{single_among}
 

@@ -1,5 +1,5 @@
 -- Climbing the superclasses of a class until a method is found.
-use Rattle.std.proofs.Common.{◌≡◌, ℕ, zero, suc, ◌+◌, ◌<◌, ◌≤◌, List, length, subst, sym, ◌∙◌, ap, arith, ◌⊎◌, inl, inr, refl, add-one}
+use Rattle.std.proofs.Common.{◌≡◌, ℕ, ◌+◌, ◌<◌, ◌≤◌, List, length, subst, sym, ◌∙◌, ap, arith, inl, inr, refl, add-one}
 use Rattle.std.proofs.lemmas.Bool.{cases_lt}
 use Rattle.jv_types.specs.declared.desc.MethodDesc.{MethodDesc}
 use Rattle.jv_types.specs.declared.ids.ClassId.{ClassId}

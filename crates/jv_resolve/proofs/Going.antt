@@ -1,13 +1,13 @@
 -- Going up depth first.
-use Rattle.std.proofs.Common.{◌≡◌, ℕ, zero, suc, ◌+◌, ◌<◌, ◌≤◌, List, [], ◌∷◌, ◌++◌, Option, Some, None, length, subst, sym, ◌∙◌, ap, arith, ◌⊎◌, inl, inr, refl, add-one}
+use Rattle.std.proofs.Common.{◌≡◌, ℕ, zero, suc, ◌+◌, ◌<◌, ◌≤◌, List, [], ◌∷◌, ◌++◌, Option, Some, None, length, subst, sym, ◌∙◌, ap, arith, inl, inr, refl, add-one}
 use Rattle.std.specs.Prelude.{option_to_list}
 use Rattle.std.specs.List.{slice_get, Contains}
 use Rattle.std.proofs.lemmas.Bool.{cases_lt}
 use Rattle.std.proofs.lemmas.Option.{slice_get_within}
 use Rattle.jv_types.specs.declared.shapes.Shape.{Shape}
-use Rattle.jv_world.specs.Worlds.{IsNamed, HasSuperclass, HasInterface, HasSuper, Sub, same, link, IsWorld}
+use Rattle.jv_world.specs.Worlds.{IsNamed, HasInterface, HasSuper, Sub, same, link, IsWorld}
 use Rattle.jv_resolve.specs.DepthFirst.{direct_supers, Leads, NoneLeads, IsFirstLeading, IsFirstWay, IsFirstBy, IsFirst}
-use Rattle.jv_resolve.proofs.Hierarchy.{one_shape, named_here, super_here, sub_trans, sub_cases, sub_from_super}
+use Rattle.jv_resolve.proofs.Hierarchy.{one_shape, super_here}
 use Rattle.jv_resolve.proofs.PlacesLemmas.{read_at, among_from_get}
 
 -- steps that each go the first way from a class that isn't such a one
@@ -105,21 +105,22 @@ no_way w P c s at none parent d (inr step) leads = interface_none w P c s at non
 
 -- ---- the loop
 
+parent_at : (xs : List (List ℕ)) (o : Option (List ℕ)) (k : ℕ) (name : List ℕ) → slice_get (xs ++ option_to_list o) k ≡ Some name → length xs ≤ k → o ≡ Some name
+parent_at [] None k name e past = absurd cc
+parent_at [] (Some y) zero name e past = e
+parent_at [] (Some y) (suc k) name e past = absurd cc
+parent_at (x ∷ xs) o zero name e past = absurd (omega arith)
+parent_at (x ∷ xs) o (suc k) name e past = parent_at xs o k name e (omega arith)
+
+-- the class of a name among the direct supers is one
+pub super_from_place : (w : List Shape) (c : ℕ) (s : Shape) (k : ℕ) (name : List ℕ) (d : ℕ) → slice_get w c ≡ Some s → slice_get (direct_supers s) k ≡ Some name → IsNamed w d name → HasSuper w c d
+super_from_place w c s k name d at got named = elim (cases_lt k (length s.interfaces)) [
+  | inl l ↦ inr (s, name, at, among_from_get s.interfaces k name (get_back s.interfaces (option_to_list s.parent) k name l got), named)
+  | inr g ↦ inl (s, name, at, parent_at s.interfaces s.parent k name got g, named)
+]
+
 pub way_super : (w : List Shape) (P : ℕ → Type 0) (c d : ℕ) → IsFirstWay w P c d → HasSuper w c d
 way_super w P c d way = super_from_place w c way.0 way.2.place way.2.name d way.1 way.2.at_place way.2.named
-  where
-    parent_at : (xs : List (List ℕ)) (o : Option (List ℕ)) (k : ℕ) (name : List ℕ) → slice_get (xs ++ option_to_list o) k ≡ Some name → length xs ≤ k → o ≡ Some name
-    parent_at [] None k name e past = absurd cc
-    parent_at [] (Some y) zero name e past = e
-    parent_at [] (Some y) (suc k) name e past = absurd cc
-    parent_at (x ∷ xs) o zero name e past = absurd (omega arith)
-    parent_at (x ∷ xs) o (suc k) name e past = parent_at xs o k name e (omega arith)
-
-    super_from_place : (w : List Shape) (c : ℕ) (s : Shape) (k : ℕ) (name : List ℕ) (d : ℕ) → slice_get w c ≡ Some s → slice_get (direct_supers s) k ≡ Some name → IsNamed w d name → HasSuper w c d
-    super_from_place w c s k name d at got named = elim (cases_lt k (length s.interfaces)) [
-      | inl l ↦ inr (s, name, at, among_from_get s.interfaces k name (get_back s.interfaces (option_to_list s.parent) k name l got), named)
-      | inr g ↦ inl (s, name, at, parent_at s.interfaces s.parent k name got g, named)
-    ]
 
 -- so many first ways were gone, to the class `at`
 pub record IsGoing (w : List Shape) (P : ℕ → Type 0) (c links at : ℕ) : Type 0 where

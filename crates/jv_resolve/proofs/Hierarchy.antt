@@ -1,12 +1,12 @@
 -- Laws of the links of a world.
-use Rattle.std.proofs.Common.{◌≡◌, ℕ, zero, suc, ◌+◌, ◌<◌, ◌≤◌, List, Some, length, subst, sym, ◌∙◌, ap, arith, ◌⊎◌, inl, inr, refl}
+use Rattle.std.proofs.Common.{◌≡◌, ℕ, zero, suc, ◌<◌, ◌≤◌, List, Some, length, subst, sym, ◌∙◌, ap, arith, ◌⊎◌, inl, inr, refl}
 use Rattle.std.specs.Prelude.{IsTrue, ◌↔◌, not, true, nat_eq}
 use Rattle.std.proofs.Common.{eq-eqb}
 use Rattle.std.proofs.lemmas.Bool.{ne_eqb}
 use Rattle.std.specs.List.{slice_get}
 use Rattle.std.proofs.lemmas.Option.{slice_get_within}
 use Rattle.jv_types.specs.declared.shapes.Shape.{Shape}
-use Rattle.jv_world.specs.Worlds.{IsNamed, HasSuperclass, HasInterface, HasSuper, Sub, same, link, ProperSub, AreNumbered, IsWorld}
+use Rattle.jv_world.specs.Worlds.{IsNamed, HasSuperclass, HasSuper, Sub, same, link, ProperSub, IsWorld}
 use Rattle.jv_resolve.specs.Inheriting.{Climbs}
 
 -- one class has one shape

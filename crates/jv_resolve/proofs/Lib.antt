@@ -12,3 +12,4 @@ pub mod ReferenceLemmas
 pub mod MethodLemmas
 pub mod SelectionLemmas
 pub mod SpecialLemmas
+pub mod FieldLemmas

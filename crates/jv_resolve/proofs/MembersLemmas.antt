@@ -1,5 +1,5 @@
 -- Members by their places, and by their names and descriptors.
-use Rattle.std.proofs.Common.{◌≡◌, ℕ, ◌+◌, ◌<◌, ◌≤◌, List, Some, length, subst, sym, ◌∙◌, ap, arith, ◌⊎◌, inl, inr, refl}
+use Rattle.std.proofs.Common.{◌≡◌, ℕ, ◌<◌, List, Some, length, subst, sym, ◌∙◌, ap, arith, inl, inr}
 use Rattle.std.specs.List.{slice_get}
 use Rattle.std.proofs.lemmas.Option.{slice_get_within}
 use Rattle.std.proofs.lemmas.Bool.{cases_lt}
@@ -10,7 +10,7 @@ use Rattle.jv_types.specs.declared.ids.FieldId.{FieldId}
 use Rattle.jv_types.specs.declared.ids.MethodId.{MethodId}
 use Rattle.jv_types.specs.declared.shapes.MethodShape.{MethodShape}
 use Rattle.jv_types.specs.declared.shapes.Shape.{Shape}
-use Rattle.jv_resolve.specs.Members.{IsMethod, HasMethod, IsAbstract, IsConcrete, IsMethodCalled, IsFieldCalled, DeclaresMethod, DeclaresField}
+use Rattle.jv_resolve.specs.Members.{IsMethod, HasMethod, IsAbstract, IsConcrete, DeclaresMethod, DeclaresField}
 use Rattle.jv_resolve.proofs.Hierarchy.{one_shape}
 
 pub class_is : (c d : ClassId) → c.number ≡ d.number → c ≡ d

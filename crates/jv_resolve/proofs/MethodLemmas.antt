@@ -1,5 +1,5 @@
 -- What a reference to a method resolves to.
-use Rattle.std.proofs.Common.{◌≡◌, ℕ, List, Option, Some, subst, sym, ◌∙◌, ap, ◌⊎◌, inl, inr}
+use Rattle.std.proofs.Common.{◌≡◌, ℕ, List, Option, Some, subst, sym, inl, inr}
 use Rattle.jv_types.specs.declared.desc.MethodDesc.{MethodDesc}
 use Rattle.jv_types.specs.declared.ids.MethodId.{MethodId}
 use Rattle.jv_types.specs.declared.references.MethodRef.{MethodRef}
@@ -7,9 +7,9 @@ use Rattle.jv_types.specs.declared.shapes.Shape.{Shape}
 use Rattle.std.specs.Prelude.{unwrap_or}
 use Rattle.jv_world.specs.Worlds.{IsNamed, IsWorld, object_name}
 use Rattle.jv_resolve.specs.Members.{DeclaresMethod, IsInterfaceClass, init_name}
-use Rattle.jv_resolve.specs.References.{named_class, BeginsAt, NamesInterface}
-use Rattle.jv_resolve.specs.Resolving.{IsInitKept, IsObjectMethod, ResolvesAbove, ResolvesInClass, ResolvesInInterface, ResolvesMethod, ResolvesInterfaceMethod}
-use Rattle.jv_resolve.proofs.ReferenceLemmas.{begins_named, names_one}
+use Rattle.jv_resolve.specs.References.{BeginsAt, NamesInterface}
+use Rattle.jv_resolve.specs.Resolving.{IsInitKept, ResolvesInClass, ResolvesInInterface, ResolvesMethod, ResolvesInterfaceMethod}
+use Rattle.jv_resolve.proofs.ReferenceLemmas.{begins_named}
 
 pub class_declares : (w : List Shape) (c : ℕ) (name : List ℕ) (desc : MethodDesc) (m : MethodId) → ResolvesInClass w c name desc m → DeclaresMethod w name desc m
 class_declares w c name desc m (inl p) = p.meets

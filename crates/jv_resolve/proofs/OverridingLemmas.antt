@@ -1,11 +1,9 @@
 -- One method between two is enough: longer rows of overriding are shortened.
-use Rattle.std.proofs.Common.{◌≡◌, ℕ, List, Some, subst, sym, ◌∙◌, ap, ◌⊎◌, inl, inr, refl}
-use Rattle.std.specs.List.{slice_get}
-use Rattle.jv_types.specs.declared.access.Access.{Access}
+use Rattle.std.proofs.Common.{◌≡◌, ℕ, List, subst, sym, ◌∙◌, ap, ◌⊎◌, inl, inr}
 use Rattle.jv_types.specs.declared.ids.MethodId.{MethodId}
 use Rattle.jv_types.specs.declared.shapes.MethodShape.{MethodShape}
 use Rattle.jv_types.specs.declared.shapes.Shape.{Shape}
-use Rattle.jv_resolve.specs.Members.{IsMethod, IsPackagePrivate, IsPublic, IsProtected}
+use Rattle.jv_resolve.specs.Members.{IsMethod, IsPackagePrivate}
 use Rattle.jv_resolve.specs.Packages.{package_of, AreInOnePackage}
 use Rattle.jv_resolve.specs.Overriding.{IsOpenTo, OverridesDirectly, Overrides, same, direct, through}
 use Rattle.jv_resolve.proofs.Hierarchy.{one_shape, sub_trans}

@@ -1,12 +1,11 @@
 -- What references name, and access by them.
-use Rattle.std.proofs.Common.{◌≡◌, ℕ, List, Option, Some, None, subst, sym, ◌∙◌, ap, ◌⊎◌, inl, inr}
+use Rattle.std.proofs.Common.{◌≡◌, ℕ, List, Option, Some, subst, sym, ◌∙◌, inl, inr}
 use Rattle.std.specs.Prelude.{unwrap_or}
 use Rattle.jv_types.specs.declared.access.Access.{Access}
 use Rattle.jv_types.specs.declared.desc.RefType.{RefType}
 use Rattle.jv_types.specs.declared.shapes.Shape.{Shape}
 use Rattle.jv_world.specs.Worlds.{IsNamed, Sub, IsWorld, object_name}
-use Rattle.jv_resolve.specs.Members.{IsInterfaceClass, IsPublic, IsProtected, IsPrivate, IsPackagePrivate, IsStatic}
-use Rattle.jv_resolve.specs.Packages.{AreInOnePackage}
+use Rattle.jv_resolve.specs.Members.{IsInterfaceClass}
 use Rattle.jv_resolve.specs.References.{named_class, BeginsAt, NamesInterface}
 use Rattle.jv_resolve.specs.Access.{IsInLine, IsProtectedAccess, HasAccess}
 

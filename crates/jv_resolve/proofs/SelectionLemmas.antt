@@ -1,5 +1,5 @@
 -- What is selected.
-use Rattle.std.proofs.Common.{◌≡◌, ℕ, ◌<◌, ◌≤◌, List, subst, sym, ◌∙◌, ap, arith, ◌⊎◌, inl, inr}
+use Rattle.std.proofs.Common.{◌≡◌, ℕ, List, subst, arith, inl, inr}
 use Rattle.std.proofs.lemmas.Bool.{cases_lt}
 use Rattle.jv_types.specs.declared.desc.MethodDesc.{MethodDesc}
 use Rattle.jv_types.specs.declared.ids.MethodId.{MethodId}
@@ -7,7 +7,7 @@ use Rattle.jv_types.specs.declared.shapes.MethodShape.{MethodShape}
 use Rattle.jv_types.specs.declared.shapes.Shape.{Shape}
 use Rattle.jv_world.specs.Worlds.{IsWorld}
 use Rattle.jv_resolve.specs.declared.nearest.Wanted.{Wanted}
-use Rattle.jv_resolve.specs.Members.{IsMethod, IsConcrete, DeclaresMethod}
+use Rattle.jv_resolve.specs.Members.{IsMethod, IsConcrete}
 use Rattle.jv_resolve.specs.Inheriting.{Climbs, IsNearest, HasNone, IsSingleDefault}
 use Rattle.jv_resolve.specs.Wanted.{IsWanted}
 use Rattle.jv_resolve.specs.Selecting.{IsCandidate, IsOverrider, SelectsBy, SelectsVirtual, SelectsInterface}

@@ -1,14 +1,13 @@
 -- Where the search of invokespecial starts, and what it finds.
-use Rattle.std.proofs.Common.{◌≡◌, ℕ, zero, suc, ◌<◌, List, Some, subst, sym, ◌∙◌, ap, ◌⊎◌, inl, inr, refl}
+use Rattle.std.proofs.Common.{◌≡◌, ℕ, List, Some, subst, sym, ◌∙◌, inl, inr, refl}
 use Rattle.jv_types.specs.declared.desc.MethodDesc.{MethodDesc}
-use Rattle.jv_types.specs.declared.desc.RefType.{RefType}
 use Rattle.jv_types.specs.declared.ids.MethodId.{MethodId}
 use Rattle.jv_types.specs.declared.references.MethodRef.{MethodRef}
 use Rattle.jv_types.specs.declared.shapes.MethodShape.{MethodShape}
 use Rattle.jv_types.specs.declared.shapes.Shape.{Shape}
 use Rattle.jv_world.specs.Worlds.{IsNamed, HasSuperclass, IsWorld}
 use Rattle.jv_resolve.specs.Inheriting.{Climbs, IsSingleDefault}
-use Rattle.jv_resolve.specs.Members.{IsConcrete, IsMethod, IsInterfaceClass, DeclaresMethod}
+use Rattle.jv_resolve.specs.Members.{IsConcrete, IsMethod, IsInterfaceClass}
 use Rattle.jv_resolve.specs.References.{named_class, BeginsAt}
 use Rattle.jv_resolve.specs.Resolving.{IsObjectMethod}
 use Rattle.jv_resolve.specs.Selecting.{IsSuperclass, IsSuperCall, SpecialStart, IsSpecialCandidate, FindsInInterface, SelectsInInterface, SelectsBy, SelectsFrom, SelectsSpecial}

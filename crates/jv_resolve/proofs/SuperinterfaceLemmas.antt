@@ -1,5 +1,5 @@
 -- Collecting the methods of superinterfaces, and the single one among them.
-use Rattle.std.proofs.Common.{◌≡◌, ℕ, ◌+◌, ◌<◌, ◌≤◌, List, [], ◌∷◌, ◌++◌, Some, length, subst, sym, ◌∙◌, ap, arith, ◌⊎◌, inl, inr, refl}
+use Rattle.std.proofs.Common.{◌≡◌, ℕ, ◌+◌, ◌<◌, ◌≤◌, List, [], ◌∷◌, ◌++◌, Some, length, subst, sym, ◌∙◌, ap, arith, inl, inr, refl}
 use Rattle.std.specs.List.{slice_get, Contains}
 use Rattle.std.proofs.lemmas.Bool.{cases_lt}
 use Rattle.std.proofs.lemmas.List.Elements.{Contains-append_left, Contains-push, Contains-push_cases}
@@ -7,10 +7,9 @@ use Rattle.jv_types.specs.declared.desc.MethodDesc.{MethodDesc}
 use Rattle.jv_types.specs.declared.ids.ClassId.{ClassId}
 use Rattle.jv_types.specs.declared.ids.MethodId.{MethodId}
 use Rattle.jv_types.specs.declared.shapes.Shape.{Shape}
-use Rattle.jv_world.specs.Worlds.{ProperSub, AreProperSupers, IsWorld}
-use Rattle.jv_resolve.specs.Members.{IsConcrete}
+use Rattle.jv_world.specs.Worlds.{ProperSub, AreProperSupers}
 use Rattle.jv_resolve.specs.Inheriting.{IsInterfaceMethod, IsSuperinterfaceMethod, IsMaximallySpecific, IsSingleDefault}
-use Rattle.jv_resolve.specs.Among.{AreSuperinterfaceMethods, AreHere, IsSpecificAmong, IsDefaultAmong, IsSingleAmong}
+use Rattle.jv_resolve.specs.Among.{AreSuperinterfaceMethods, AreHere, IsSpecificAmong, IsSingleAmong}
 use Rattle.jv_resolve.proofs.MembersLemmas.{declares_one, declared_here}
 use Rattle.jv_resolve.proofs.PlacesLemmas.{read_at}
 

@@ -1,7 +1,6 @@
 -- Where methods are looked for above a class: along its superclasses, and among its superinterfaces.
 use Rattle.std.specs.Prelude.{◌≡◌, ℕ, zero, suc, ◌<◌, List}
 use Rattle.jv_types.specs.declared.desc.MethodDesc.{MethodDesc}
-use Rattle.jv_types.specs.declared.ids.ClassId.{ClassId}
 use Rattle.jv_types.specs.declared.ids.MethodId.{MethodId}
 use Rattle.jv_types.specs.declared.shapes.Shape.{Shape}
 use Rattle.jv_world.specs.Worlds.{HasSuperclass, ProperSub}

@@ -4,7 +4,6 @@ use Rattle.std.specs.List.{slice_get}
 use Rattle.jv_types.specs.declared.access.Access.{Access}
 use Rattle.jv_types.specs.declared.desc.Desc.{Desc}
 use Rattle.jv_types.specs.declared.desc.MethodDesc.{MethodDesc}
-use Rattle.jv_types.specs.declared.ids.ClassId.{ClassId}
 use Rattle.jv_types.specs.declared.ids.FieldId.{FieldId}
 use Rattle.jv_types.specs.declared.ids.MethodId.{MethodId}
 use Rattle.jv_types.specs.declared.shapes.FieldShape.{FieldShape}

@@ -1,6 +1,6 @@
 -- What a reference names (JVMS 4.4.2).
 use Rattle.std.specs.Prelude.{◌≡◌, ℕ, List, Option, Some, None, unwrap_or}
-use Rattle.jv_types.specs.declared.desc.RefType.{RefType, Class, PrimArray, Array', Row_of-RefType}
+use Rattle.jv_types.specs.declared.desc.RefType.{RefType, Class, PrimArray, Array'}
 use Rattle.jv_types.specs.declared.shapes.Shape.{Shape}
 use Rattle.jv_world.specs.Worlds.{IsNamed, object_name}
 use Rattle.jv_resolve.specs.Members.{IsInterfaceClass}

@@ -1,5 +1,5 @@
 -- Why a reference is not resolved.
-use Rattle.std.specs.Prelude.{◌≡◌, ℕ, List, Some}
+use Rattle.std.specs.Prelude.{ℕ, List}
 use Rattle.jv_types.specs.declared.ids.FieldId.{FieldId}
 use Rattle.jv_types.specs.declared.ids.MethodId.{MethodId}
 use Rattle.jv_types.specs.declared.references.FieldRef.{FieldRef}

@@ -9,7 +9,7 @@ use Rattle.jv_types.specs.declared.references.MethodRef.{MethodRef}
 use Rattle.jv_types.specs.declared.shapes.MethodShape.{MethodShape}
 use Rattle.jv_types.specs.declared.shapes.Shape.{Shape}
 use Rattle.jv_world.specs.Worlds.{IsNamed, object_name}
-use Rattle.jv_resolve.specs.Members.{IsPublic, IsStatic, IsInterfaceClass, IsInheritable, IsMethod, init_name, DeclaresField, DeclaresMethod}
+use Rattle.jv_resolve.specs.Members.{IsPublic, IsStatic, IsInterfaceClass, IsMethod, init_name, DeclaresField, DeclaresMethod}
 use Rattle.jv_resolve.specs.Inheriting.{IsSuperinterfaceMethod, IsNearest, HasNone, IsSingleDefault, HasNoSingleDefault}
 use Rattle.jv_resolve.specs.DepthFirst.{IsFirst}
 use Rattle.jv_resolve.specs.References.{named_class, BeginsAt, NamesInterface}

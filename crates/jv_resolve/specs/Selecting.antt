@@ -11,7 +11,7 @@ use Rattle.jv_resolve.specs.Members.{IsPrivate, IsStatic, IsInterfaceClass, IsIn
 use Rattle.jv_resolve.specs.Inheriting.{Climbs, IsNearest, HasNone, IsSingleDefault}
 use Rattle.jv_resolve.specs.Overriding.{Overrides}
 use Rattle.jv_resolve.specs.References.{named_class, BeginsAt}
-use Rattle.jv_resolve.specs.Resolving.{IsObjectMethod, DeclaresIn}
+use Rattle.jv_resolve.specs.Resolving.{IsObjectMethod}
 
 -- declared with this name and descriptor, and neither private nor static
 abbrev pub IsCandidate : List Shape → List ℕ → MethodDesc → MethodId → Type 0

@@ -5,6 +5,7 @@ mod above;
 mod access;
 mod class_methods;
 mod depth_first;
+mod fields;
 mod flags;
 mod members;
 mod methods;
@@ -17,6 +18,7 @@ mod selection;
 mod special;
 mod superinterfaces;
 
+pub use fields::field;
 pub use methods::{interface_method, method};
 pub use overriding::overrides;
 pub use refusal::ResolveRefusal;

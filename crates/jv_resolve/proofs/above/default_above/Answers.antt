@@ -1,5 +1,5 @@
 -- The list has the superinterface methods.
-use Rattle.std.proofs.Common.{◌≡◌, sym, subst, List}
+use Rattle.std.proofs.Common.{sym, subst}
 use Rattle.jv_types.specs.declared.ids.MethodId.{MethodId}
 use Rattle.jv_resolve.specs.Inheriting.{IsSingleDefault}
 use Rattle.jv_resolve.specs.Among.{AreSuperinterfaceMethods, IsSingleAmong}

@@ -1,5 +1,4 @@
 -- Neither the single one nor a first one.
-use Rattle.std.proofs.Common.{◌≡◌}
 use Rattle.jv_types.specs.declared.ids.MethodId.{MethodId}
 use Rattle.jv_resolve.specs.DepthFirst.{Leads}
 use Rattle.jv_resolve.specs.Inheriting.{HasNoSingleDefault}

@@ -1,5 +1,5 @@
 -- One class has the name.
-use Rattle.std.proofs.Common.{inl, inr}
+use Rattle.std.proofs.Common.{inr}
 use Rattle.jv_resolve.specs.Access.{IsInLine}
 use Rattle.jv_resolve.proofs.ReferenceLemmas.{in_line_one}
 use Rattle.jv_resolve.proofs.Tests.{never, denied}

@@ -1,5 +1,4 @@
 -- Neither in a superclass nor above.
-use Rattle.std.proofs.Common.{◌≡◌}
 use Rattle.jv_types.specs.declared.ids.MethodId.{MethodId}
 use Rattle.jv_resolve.specs.Resolving.{ResolvesAbove, ResolvesInClass}
 use Rattle.jv_resolve.proofs.AboveLemmas.{nothing_in_class}

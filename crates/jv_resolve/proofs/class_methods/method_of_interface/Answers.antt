@@ -1,6 +1,5 @@
 -- In the interface, in Object, or above.
-use Rattle.std.proofs.Common.{◌≡◌, inl, inr, ap}
-use Rattle.jv_types.specs.declared.ids.ClassId.{ClassId}
+use Rattle.std.proofs.Common.{inl, inr}
 use Rattle.jv_types.specs.declared.ids.MethodId.{MethodId}
 use Rattle.jv_resolve.specs.Resolving.{IsObjectMethod, ResolvesAbove, ResolvesInInterface}
 use Rattle.jv_resolve.proofs.AboveLemmas.{nothing_in_interface}

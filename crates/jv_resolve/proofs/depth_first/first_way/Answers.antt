@@ -1,5 +1,5 @@
 -- By the superinterfaces, or by the superclass.
-use Rattle.std.proofs.Common.{◌≡◌, ℕ, List, subst, sym, ◌∙◌}
+use Rattle.std.proofs.Common.{ℕ, List, subst}
 use Rattle.jv_types.specs.declared.ids.ClassId.{ClassId}
 use Rattle.jv_world.specs.Worlds.{IsNamed, HasSuper}
 use Rattle.jv_resolve.specs.DepthFirst.{Leads, NoneLeads, IsFirstLeading, IsFirstWay}

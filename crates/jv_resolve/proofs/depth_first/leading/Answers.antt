@@ -1,5 +1,5 @@
 -- One class has the name.
-use Rattle.std.proofs.Common.{◌≡◌, ℕ, subst, sym}
+use Rattle.std.proofs.Common.{◌≡◌, subst}
 use Rattle.jv_resolve.specs.DepthFirst.{Leads}
 use Rattle.jv_resolve.specs.Targets.{IsTarget}
 use Rattle.jv_resolve.proofs.Hierarchy.{named_here}

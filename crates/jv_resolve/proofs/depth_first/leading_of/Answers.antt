@@ -1,5 +1,5 @@
 -- Each name is looked at.
-use Rattle.std.proofs.Common.{◌≡◌, ℕ, ◌<◌, ◌+◌, List}
+use Rattle.std.proofs.Common.{ℕ, List}
 use Rattle.jv_world.specs.Worlds.{IsNamed}
 use Rattle.jv_resolve.specs.DepthFirst.{Leads}
 use Rattle.jv_resolve.specs.Targets.{IsTarget}

@@ -1,5 +1,5 @@
 -- Each method of the class is looked at.
-use Rattle.std.proofs.Common.{◌≡◌, ◌<◌, sym, subst, ap, length, arith, inl, inr}
+use Rattle.std.proofs.Common.{◌≡◌, ◌<◌, sym, subst, length, arith, inl, inr}
 use Rattle.std.proofs.lemmas.Bool.{cases_lt}
 use Rattle.jv_types.specs.declared.ids.MethodId.{MethodId}
 use Rattle.jv_types.specs.declared.shapes.MethodShape.{MethodShape}

@@ -1,6 +1,5 @@
 -- The class of a method between is the method's own one or above it.
-use Rattle.std.proofs.Common.{◌≡◌, ◌<◌, ◌+◌, sym, subst, ap, length, arith, inl, inr, get_or, Some, refl}
-use Rattle.std.specs.List.{slice_get}
+use Rattle.std.proofs.Common.{sym, inl, inr, get_or, refl}
 use Rattle.std.proofs.lemmas.Option.{slice_get-get_or}
 use Rattle.std.proofs.lemmas.List.Elements.{Contains-get_or}
 use Rattle.jv_types.specs.declared.ids.ClassId.{ClassId}
@@ -8,7 +7,7 @@ use Rattle.jv_resolve.specs.Overriding.{HasMiddle, HasMiddleAbove}
 use Rattle.jv_resolve.proofs.Hierarchy.{proper_here, sub_cases}
 use Rattle.jv_resolve.proofs.Tests.{denied, never}
 use Rattle.jv_resolve.proofs.MembersLemmas.{class_here}
-use Rattle.jv_resolve.proofs.PlacesLemmas.{none_more, read_at, none_among}
+use Rattle.jv_resolve.proofs.PlacesLemmas.{none_more, none_among}
 use Rattle.jv_resolve.proofs.overriding.is_over_middle.Goals as goal
 
 pub proper_supers-c-items-requires : goal.proper_supers-c-items-requires

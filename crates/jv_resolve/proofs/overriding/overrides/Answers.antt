@@ -1,7 +1,4 @@
 -- What is shown of longer rows: one method between is enough, and none is needed where `b` isn't package-private.
-use Rattle.std.proofs.Common.{◌≡◌, sym, ◌∙◌, subst, ap, inl, inr, true, false}
-use Rattle.jv_types.specs.declared.shapes.MethodShape.{MethodShape}
-use Rattle.jv_resolve.specs.Members.{IsPackagePrivate}
 use Rattle.jv_resolve.specs.Overriding.{Overrides, same, direct, through}
 use Rattle.jv_resolve.proofs.Tests.{denied, yes, never_at}
 use Rattle.jv_resolve.proofs.OverridingLemmas.{short_rest, hidden_at}

@@ -1,6 +1,5 @@
 -- Each byte is a slash or another one.
-use Rattle.std.proofs.Common.{◌∙◌, ◌≡◌, ◌≤◌, ◌+◌, sym, ap, take, subst, arith}
-use Rattle.jv_resolve.specs.Packages.{package_of}
+use Rattle.std.proofs.Common.{◌∙◌, sym, ap, take, arith}
 use Rattle.jv_resolve.proofs.PackagesLemmas.{package_more_slash, package_more_other}
 use Rattle.jv_resolve.proofs.packages.package_of.Goals as goal
 use Rattle.jv_resolve.proofs.packages.package_of.Goals.{then-byte-eq47, else-byte-eq47}

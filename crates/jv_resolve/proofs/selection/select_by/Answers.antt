@@ -1,5 +1,4 @@
 -- The nearest one is abstract, or there is none.
-use Rattle.std.proofs.Common.{◌≡◌}
 use Rattle.jv_types.specs.declared.ids.MethodId.{MethodId}
 use Rattle.jv_resolve.specs.Members.{IsConcrete}
 use Rattle.jv_resolve.specs.Inheriting.{IsSingleDefault}

@@ -1,5 +1,4 @@
 -- The shape is that of the method.
-use Rattle.std.proofs.Common.{◌≡◌}
 use Rattle.jv_types.specs.declared.ids.MethodId.{MethodId}
 use Rattle.jv_resolve.specs.declared.nearest.Wanted.TheVariants.{Inherited}
 use Rattle.jv_resolve.specs.Wanted.{IsWanted}

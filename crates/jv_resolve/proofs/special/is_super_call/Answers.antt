@@ -12,7 +12,7 @@ returns-in-None c =
 
 pub returns-in-Some-class : goal.returns-in-Some-class
 returns-in-Some-class c = (
-    λ t. (denied c.is_init.result c.if-is_init.false c.is_init.ensures.1, c.in-Some.class_name.now, c.in-Some-class.class.number, sym c.in-Some.ensures, c.in-Some-class.ensures.found, c.is_superclass.ensures.0 t),
-    λ p. c.is_superclass.ensures.1 (super_one c.args.world.now c.args.from.number c.args.r.now c.args.name.now c.in-Some.class_name.now c.in-Some-class.class.number c.in-Some-class.ensures.world
-        c.in-Some.ensures c.in-Some-class.ensures.found p)
+  λ t. (denied c.is_init.result c.if-is_init.false c.is_init.ensures.1, c.in-Some.class_name.now, c.in-Some-class.class.number, sym c.in-Some.ensures, c.in-Some-class.ensures.found, c.is_superclass.ensures.0 t),
+  λ p. c.is_superclass.ensures.1 (super_one c.args.world.now c.args.from.number c.args.r.now c.args.name.now c.in-Some.class_name.now c.in-Some-class.class.number c.in-Some-class.ensures.world
+      c.in-Some.ensures c.in-Some-class.ensures.found p),
 )

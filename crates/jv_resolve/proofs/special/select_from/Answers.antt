@@ -17,4 +17,4 @@ returns-clause-none c =
     ((s : MethodId) → SelectsBy c.args.world.now (IsSpecialCandidate c.args.world.now c.args.resolved c.args.name.now c.args.desc.now) c.args.start.number c.args.name.now c.args.desc.now s → ⊥)
     ((s : MethodId) → SelectsFrom c.args.world.now c.args.resolved c.args.name.now c.args.desc.now c.args.start.number s → ⊥)
     (from_class c.args.world.now c.args.resolved c.args.name.now c.args.desc.now c.args.start.number
-        (denied c.is_interface_class.result c.if-is_interface_class.false c.is_interface_class.ensures.1)) c.select_by.ensures.none
+    (denied c.is_interface_class.result c.if-is_interface_class.false c.is_interface_class.ensures.1)) c.select_by.ensures.none

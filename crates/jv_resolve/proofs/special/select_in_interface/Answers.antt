@@ -1,5 +1,5 @@
 -- The interface's own one, Object's, or the single one above.
-use Rattle.std.proofs.Common.{◌≡◌, ℕ, ap}
+use Rattle.std.proofs.Common.{ℕ, ap}
 use Rattle.jv_types.specs.declared.ids.ClassId.{ClassId}
 use Rattle.jv_types.specs.declared.ids.MethodId.{MethodId}
 use Rattle.jv_resolve.specs.Inheriting.{IsSingleDefault}
@@ -16,7 +16,7 @@ returns-in-Some-clause-none c =
     none_weaker c.concrete_only.result (IsConcrete c.args.world.now c.in-Some.m → ⊥)
     ((s : MethodId) → SelectsInInterface c.args.world.now c.args.resolved c.args.name.now c.args.desc.now c.args.start.number s → ⊥)
     (not_concrete c.args.world.now c.args.resolved c.args.name.now c.args.desc.now c.args.start.number c.in-Some.m
-        (λ s p. own_is c.args.world.now c.args.resolved c.args.name.now c.args.desc.now c.args.start.number c.in-Some.m s c.in-Some.ensures.found.1 (ap number c.in-Some.ensures.found.0) p))
+    (λ s p. own_is c.args.world.now c.args.resolved c.args.name.now c.args.desc.now c.args.start.number c.in-Some.m s c.in-Some.ensures.found.1 (ap number c.in-Some.ensures.found.0) p))
     c.concrete_only.ensures.none
 
 pub returns-in-Some-2-clause-none : goal.returns-in-Some-2-clause-none
@@ -25,7 +25,7 @@ returns-in-Some-2-clause-none c =
     none_weaker c.concrete_only-in-Some-2.result (IsConcrete c.args.world.now c.in-Some-2.m → ⊥)
     ((s : MethodId) → SelectsInInterface c.args.world.now c.args.resolved c.args.name.now c.args.desc.now c.args.start.number s → ⊥)
     (not_concrete c.args.world.now c.args.resolved c.args.name.now c.args.desc.now c.args.start.number c.in-Some-2.m
-        (λ s p. object_is c.args.world.now c.args.resolved c.args.name.now c.args.desc.now c.args.start.number c.in-Some-2.m s c.in_default.ensures.none c.in_default.ensures.world found p))
+    (λ s p. object_is c.args.world.now c.args.resolved c.args.name.now c.args.desc.now c.args.start.number c.in-Some-2.m s c.in_default.ensures.none c.in_default.ensures.world found p))
     c.concrete_only-in-Some-2.ensures.none
 
 pub returns-clause-none : goal.returns-clause-none

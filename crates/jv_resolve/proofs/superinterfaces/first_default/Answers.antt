@@ -1,5 +1,4 @@
 -- Each of the methods is looked at.
-use Rattle.std.proofs.Common.{◌≡◌, ◌<◌, get_or}
 use Rattle.std.proofs.lemmas.List.Elements.{Contains-get_or}
 use Rattle.jv_resolve.specs.Among.{IsDefaultAmong}
 use Rattle.jv_resolve.proofs.MembersLemmas.{no_method}

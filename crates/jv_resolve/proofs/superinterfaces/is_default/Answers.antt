@@ -1,7 +1,6 @@
 -- The shape that was looked at is the method's.
-use Rattle.jv_resolve.specs.Among.{IsDefaultAmong}
-use Rattle.jv_resolve.proofs.MembersLemmas.{concrete_from, concrete_at}
-use Rattle.jv_resolve.proofs.Tests.{denied, granted, never}
+use Rattle.jv_resolve.proofs.MembersLemmas.{concrete_from}
+use Rattle.jv_resolve.proofs.Tests.{denied}
 use Rattle.jv_resolve.proofs.superinterfaces.is_default.Goals as goal
 
 pub returns-then-not-is_abstract : goal.returns-then-not-is_abstract

@@ -1,5 +1,5 @@
 -- Each of the methods is looked at.
-use Rattle.std.proofs.Common.{◌≡◌, ◌<◌, get_or}
+use Rattle.std.proofs.Common.{get_or}
 use Rattle.std.proofs.lemmas.List.Elements.{Contains-get_or}
 use Rattle.jv_types.specs.declared.ids.MethodId.{MethodId}
 use Rattle.jv_world.specs.Worlds.{ProperSub}

@@ -1,5 +1,5 @@
 -- The first such one is the only one, or there are two.
-use Rattle.std.proofs.Common.{◌≡◌, ◌∙◌, sym}
+use Rattle.std.proofs.Common.{◌∙◌, sym}
 use Rattle.jv_resolve.proofs.Tests.{denied}
 use Rattle.jv_resolve.proofs.superinterfaces.single_default.Goals as goal
 

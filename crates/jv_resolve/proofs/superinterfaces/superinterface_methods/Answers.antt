@@ -1,5 +1,5 @@
 -- Each proper supertype is looked at.
-use Rattle.std.proofs.Common.{◌≡◌, ◌<◌, ◌+◌, ◌∙◌, sym, ap, subst, get_or, List, Vec, Global}
+use Rattle.std.proofs.Common.{◌+◌, ◌∙◌, sym, ap, subst, get_or, List, Vec, Global}
 use Rattle.std.proofs.lemmas.List.Elements.{Contains-get_or}
 use Rattle.std.proofs.lemmas.Option.{slice_get-get_or}
 use Rattle.jv_types.specs.declared.ids.MethodId.{MethodId}

@@ -1,5 +1,4 @@
 -- The list has the methods of the supertypes so far.
-use Rattle.std.proofs.Common.{◌≡◌, ℕ, ◌<◌, Some}
 use Rattle.jv_resolve.proofs.SuperinterfaceLemmas.{AreSoFar}
 use Rattle.jv_resolve.proofs.superinterfaces.superinterface_methods.Given as goal
 
