@@ -1,2 +1,5 @@
 pub mod PoolText
 pub mod Lookups
+pub mod Reading
+pub mod PoolReading
+pub mod Adding

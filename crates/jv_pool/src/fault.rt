@@ -1,6 +1,7 @@
 ghost use Rattle.std.specs.Prelude.{◌≡◌};
 ghost use Rattle.jv_pool.specs.declared.fault.BadPool.TheVariants as bad;
 ghost use Rattle.jv_pool.specs.declared.fault.PoolRefusal.TheVariants as refusal;
+ghost use Rattle.jv_pool.specs.declared.fault.WriteRefusal.TheVariants as write;
 
 use std::alloc::{AllocError, AllocFailed};
 use thiserror::Error;
@@ -56,5 +57,32 @@ impl<T: Drop> From<AllocFailed<T>> for PoolRefusal {
 
     fn from(_e: AllocFailed<T>) -> PoolRefusal {
         PoolRefusal::Memory
+    }
+}
+
+/// Why a part of a class file was not written.
+#[derive(Clone, Copy, Debug, PartialEq, Eq, Error)]
+pub enum WriteRefusal {
+    /// A length doesn't fit the bytes that it has.
+    #[error("a part of the class is too long")]
+    TooLong,
+    /// Memory is wanting.
+    #[error("out of memory")]
+    Memory,
+}
+
+impl From<AllocError> for WriteRefusal {
+    ghost from_gives = { λ _ e. e ≡ write.Memory };
+
+    fn from(_e: AllocError) -> WriteRefusal {
+        WriteRefusal::Memory
+    }
+}
+
+impl<T: Drop> From<AllocFailed<T>> for WriteRefusal {
+    ghost from_gives = { λ _ e. e ≡ write.Memory };
+
+    fn from(_e: AllocFailed<T>) -> WriteRefusal {
+        WriteRefusal::Memory
     }
 }

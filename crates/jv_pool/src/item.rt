@@ -1,4 +1,5 @@
-use jv_types::Seq;
+use jv_types::{Copied, Seq};
+use std::alloc::AllocError;
 
 /// An item of the constant pool (JVMS 4.4). Numbers that name another item are indices of the pool,
 /// which begin at 1.
@@ -33,4 +34,29 @@ pub enum PoolItem {
     InvokeDynamic(u16, u16),
     /// The second index of a `Long` or `Double`, which names nothing (JVMS 4.4.5).
     Hole,
+}
+
+impl Copied for PoolItem {
+    fn copy(&self) -> Result<PoolItem, AllocError> {
+        Ok(match self {
+            PoolItem::Utf8(text) => {
+                let copied = Vec::from_slice(text.allocator(), text.as_slice())?;
+                PoolItem::Utf8(Seq::from_vec(copied))
+            }
+            PoolItem::Integer(number) => PoolItem::Integer(*number),
+            PoolItem::Float(bits) => PoolItem::Float(*bits),
+            PoolItem::Long(number) => PoolItem::Long(*number),
+            PoolItem::Double(bits) => PoolItem::Double(*bits),
+            PoolItem::Class(name) => PoolItem::Class(*name),
+            PoolItem::Text(text) => PoolItem::Text(*text),
+            PoolItem::Field(class, pair) => PoolItem::Field(*class, *pair),
+            PoolItem::Method(class, pair) => PoolItem::Method(*class, *pair),
+            PoolItem::InterfaceMethod(class, pair) => PoolItem::InterfaceMethod(*class, *pair),
+            PoolItem::NameAndType(name, desc) => PoolItem::NameAndType(*name, *desc),
+            PoolItem::MethodHandle(kind, member) => PoolItem::MethodHandle(*kind, *member),
+            PoolItem::MethodType(desc) => PoolItem::MethodType(*desc),
+            PoolItem::InvokeDynamic(bootstrap, pair) => PoolItem::InvokeDynamic(*bootstrap, *pair),
+            PoolItem::Hole => PoolItem::Hole,
+        })
+    }
 }

@@ -2,9 +2,22 @@
 #![tactic(auto)]
 
 mod fault;
+mod fields;
 mod item;
+mod link;
+mod number;
 mod pool;
+mod pool_writer;
+mod reader;
+mod text;
+mod write;
 
-pub use fault::{BadPool, PoolRefusal};
+pub use fault::{BadPool, PoolRefusal, WriteRefusal};
 pub use item::PoolItem;
 pub use pool::Pool;
+pub use pool_writer::PoolWriter;
+pub use reader::{one_pool_text, read_pool};
+pub use write::put_pool;
+
+#[cfg(test)]
+mod tests;

@@ -1,0 +1,206 @@
+-- The numbers behind an item's tag that are read are spelled so, and what is spelled so is read; and which
+-- item they make.
+use Rattle.std.proofs.Common.{◌≡◌, ℕ, ◌+◌, ◌*◌, ◌/◌, ◌%◌, ◌^◌, ◌<◌, ℤ, Bool, true, false, cond, eqb, List, [], ◌∷◌, ◌++◌, length, Option, Some, None, refl, sym, ap, subst, ◌∙◌, ◌⊎◌, inl, inr, append_assoc, arith, FitsSigned}
+use Rattle.std.specs.Int.{w32, w64, cast_unsigned, cast_signed}
+use Rattle.std.specs.Cmp.Lexicographic.{pointwise}
+use Rattle.std.proofs.lemmas.Bool.{eqb-true}
+use Rattle.std.proofs.lemmas.Int.{of_z-to_z, to_z-of_z}
+use Rattle.std.proofs.lemmas.Nat.{div-mul-add, mod-mul-add, div-add-mod'}
+use borrow.Author.Gap.{read_sfits}
+use Rattle.jv_pool.specs.declared.item.PoolItem.{PoolItem}
+use Rattle.jv_pool.specs.declared.item.PoolItem.TheVariants as items
+use Rattle.jv_pool.specs.declared.fields.Fields.{Fields}
+use Rattle.jv_pool.specs.declared.fields.Fields.TheVariants.{Index, Word, Words, Pair, Handle}
+use Rattle.jv_pool.specs.PoolText.{u2, u4, u8, item_text, IsItem, is_wide, is_hole, IsShort}
+use Rattle.jv_pool.specs.Reading.{◌>>=◌, u1_at, number_at}
+use Rattle.jv_pool.specs.PoolReading.{index_at, word_at, words_at, pair_at, handle_at, fields_at, item_of}
+use Rattle.jv_pool.proofs.Fronts.{bind_some, bind_is, given_as, some_is, joined, u1_takes, u1_again, number_takes, number_again}
+
+-- the text of the numbers
+abbrev pub fields_text : Fields → List ℕ
+fields_text (Index n) = u2 n
+fields_text (Word n) = u4 n
+fields_text (Words high low) = u4 high ++ u4 low
+fields_text (Pair a b) = u2 a ++ u2 b
+fields_text (Handle kind member) = kind ∷ u2 member
+
+-- they fit their widths
+abbrev pub AreFitting : Fields → Type 0
+AreFitting (Index n) = n < 2 ^ 16
+AreFitting (Word n) = n < 2 ^ 32
+AreFitting (Words high low) = (high < 2 ^ 32) × (low < 2 ^ 32)
+AreFitting (Pair a b) = (a < 2 ^ 16) × (b < 2 ^ 16)
+AreFitting (Handle kind member) = member < 2 ^ 16
+
+-- their widths
+abbrev pub parts_of : Fields → List ℕ
+parts_of (Index n) = 2 ∷ []
+parts_of (Word n) = 4 ∷ []
+parts_of (Words high low) = 4 ∷ 4 ∷ []
+parts_of (Pair a b) = 2 ∷ 2 ∷ []
+parts_of (Handle kind member) = 1 ∷ 2 ∷ []
+
+-- what was read is spelled so
+abbrev pub TakesFields : List ℕ → Fields × List ℕ → Type 0
+TakesFields bytes x = AreFitting x.0 × (bytes ≡ fields_text x.0 ++ x.1)
+
+index_takes : (bytes : List ℕ) (x : Fields × List ℕ) → index_at bytes ≡ Some x → TakesFields bytes x
+unfolding index_at
+index_takes bytes x e =
+    let a = bind_some (number_at 2 bytes) (λ index. Some (Index index.0, index.1)) x e in
+    let t = number_takes 2 bytes a.0 a.1 in
+    let made : Fields × List ℕ = (Index a.0.0, a.0.1) in
+    given_as (λ (y : Fields × List ℕ). TakesFields bytes y) made x a.2 (t.1, t.0)
+
+word_takes : (bytes : List ℕ) (x : Fields × List ℕ) → word_at bytes ≡ Some x → TakesFields bytes x
+unfolding word_at
+word_takes bytes x e =
+    let a = bind_some (number_at 4 bytes) (λ word. Some (Word word.0, word.1)) x e in
+    let t = number_takes 4 bytes a.0 a.1 in
+    let made : Fields × List ℕ = (Word a.0.0, a.0.1) in
+    given_as (λ (y : Fields × List ℕ). TakesFields bytes y) made x a.2 (t.1, t.0)
+
+words_take : (bytes : List ℕ) (x : Fields × List ℕ) → words_at bytes ≡ Some x → TakesFields bytes x
+unfolding words_at
+words_take bytes x e =
+    let a = bind_some (number_at 4 bytes) (λ high. number_at 4 high.1 >>= λ low. Some (Words high.0 low.0, low.1)) x e in
+    let b = bind_some (number_at 4 a.0.1) (λ low. Some (Words a.0.0 low.0, low.1)) x a.2 in
+    let s = number_takes 4 bytes a.0 a.1 in
+    let t = number_takes 4 a.0.1 b.0 b.1 in
+    let made : Fields × List ℕ = (Words a.0.0 b.0.0, b.0.1) in
+    given_as (λ (y : Fields × List ℕ). TakesFields bytes y) made x b.2 ((s.1, t.1), joined bytes (u4 a.0.0) (u4 b.0.0) a.0.1 b.0.1 s.0 t.0)
+
+pair_takes : (bytes : List ℕ) (x : Fields × List ℕ) → pair_at bytes ≡ Some x → TakesFields bytes x
+unfolding pair_at
+pair_takes bytes x e =
+    let a = bind_some (number_at 2 bytes) (λ first. number_at 2 first.1 >>= λ second. Some (Pair first.0 second.0, second.1)) x e in
+    let b = bind_some (number_at 2 a.0.1) (λ second. Some (Pair a.0.0 second.0, second.1)) x a.2 in
+    let s = number_takes 2 bytes a.0 a.1 in
+    let t = number_takes 2 a.0.1 b.0 b.1 in
+    let made : Fields × List ℕ = (Pair a.0.0 b.0.0, b.0.1) in
+    given_as (λ (y : Fields × List ℕ). TakesFields bytes y) made x b.2 ((s.1, t.1), joined bytes (u2 a.0.0) (u2 b.0.0) a.0.1 b.0.1 s.0 t.0)
+
+handle_takes : (bytes : List ℕ) (x : Fields × List ℕ) → handle_at bytes ≡ Some x → TakesFields bytes x
+unfolding handle_at
+handle_takes bytes x e =
+    let a = bind_some (u1_at bytes) (λ kind. number_at 2 kind.1 >>= λ member. Some (Handle kind.0 member.0, member.1)) x e in
+    let b = bind_some (number_at 2 a.0.1) (λ member. Some (Handle a.0.0 member.0, member.1)) x a.2 in
+    let s = u1_takes bytes a.0 a.1 in
+    let t = number_takes 2 a.0.1 b.0 b.1 in
+    let made : Fields × List ℕ = (Handle a.0.0 b.0.0, b.0.1) in
+    given_as (λ (y : Fields × List ℕ). TakesFields bytes y) made x b.2 (t.1, s ∙ ap (λ (r : List ℕ). a.0.0 ∷ r) t.0)
+
+-- what is chosen by a test is one of two
+pub chosen : {A : Type 0} (b : Bool) (x y z : A) → cond b x y ≡ z → (x ≡ z) ⊎ (y ≡ z)
+chosen true x y z e = inl e
+chosen false x y z e = inr e
+
+-- numbers of any widths that are read are spelled so
+pub fields_take : (parts bytes : List ℕ) (x : Fields × List ℕ) → fields_at parts bytes ≡ Some x → TakesFields bytes x
+unfolding fields_at
+fields_take parts bytes x e = by (pointwise eqb parts (2 ∷ [])) (pointwise eqb parts (4 ∷ [])) (pointwise eqb parts (4 ∷ 4 ∷ [])) (pointwise eqb parts (2 ∷ 2 ∷ [])) (pointwise eqb parts (1 ∷ 2 ∷ [])) e
+  where
+    by : (p q r s t : Bool) → cond p (index_at bytes) (cond q (word_at bytes) (cond r (words_at bytes) (cond s (pair_at bytes) (cond t (handle_at bytes) None)))) ≡ Some x → TakesFields bytes x
+    by true q r s t e = index_takes bytes x e
+    by false true r s t e = word_takes bytes x e
+    by false false true s t e = words_take bytes x e
+    by false false false true t e = pair_takes bytes x e
+    by false false false false true e = handle_takes bytes x e
+    by false false false false false e = absurd cc
+
+-- numbers are read again, whatever follows
+pub fields_again : (fields : Fields) (rest : List ℕ) → AreFitting fields → fields_at (parts_of fields) (fields_text fields ++ rest) ≡ Some (fields, rest)
+unfolding fields_at index_at word_at words_at pair_at handle_at
+fields_again (Index n) rest fits = bind_is (number_at 2 (u2 n ++ rest)) (λ index. Some (Index index.0, index.1)) (n, rest) (number_again 2 n rest fits)
+fields_again (Word n) rest fits = bind_is (number_at 4 (u4 n ++ rest)) (λ word. Some (Word word.0, word.1)) (n, rest) (number_again 4 n rest fits)
+fields_again (Words high low) rest fits =
+    ap (λ (b : List ℕ). number_at 4 b >>= λ x. number_at 4 x.1 >>= λ y. Some (Words x.0 y.0, y.1)) (append_assoc (u4 high) (u4 low) rest)
+    ∙ bind_is (number_at 4 (u4 high ++ (u4 low ++ rest))) (λ x. number_at 4 x.1 >>= λ y. Some (Words x.0 y.0, y.1)) (high, u4 low ++ rest) (number_again 4 high (u4 low ++ rest) fits.0)
+    ∙ bind_is (number_at 4 (u4 low ++ rest)) (λ y. Some (Words high y.0, y.1)) (low, rest) (number_again 4 low rest fits.1)
+fields_again (Pair a b) rest fits =
+    ap (λ (c : List ℕ). number_at 2 c >>= λ x. number_at 2 x.1 >>= λ y. Some (Pair x.0 y.0, y.1)) (append_assoc (u2 a) (u2 b) rest)
+    ∙ bind_is (number_at 2 (u2 a ++ (u2 b ++ rest))) (λ x. number_at 2 x.1 >>= λ y. Some (Pair x.0 y.0, y.1)) (a, u2 b ++ rest) (number_again 2 a (u2 b ++ rest) fits.0)
+    ∙ bind_is (number_at 2 (u2 b ++ rest)) (λ y. Some (Pair a y.0, y.1)) (b, rest) (number_again 2 b rest fits.1)
+fields_again (Handle kind member) rest fits =
+    bind_is (u1_at (kind ∷ (u2 member ++ rest))) (λ x. number_at 2 x.1 >>= λ y. Some (Handle x.0 y.0, y.1)) (kind, u2 member ++ rest) (u1_again kind (u2 member ++ rest))
+    ∙ bind_is (number_at 2 (u2 member ++ rest)) (λ y. Some (Handle kind y.0, y.1)) (member, rest) (number_again 2 member rest fits)
+
+-- ---- the item that they make
+
+-- the tag of an item, and 0 where it has none
+abbrev pub tag_of : PoolItem → ℕ
+tag_of (items.Utf8 bytes) = 1
+tag_of (items.Integer n) = 3
+tag_of (items.Float bits) = 4
+tag_of (items.Long n) = 5
+tag_of (items.Double bits) = 6
+tag_of (items.Class name) = 7
+tag_of (items.Text text) = 8
+tag_of (items.Field class pair) = 9
+tag_of (items.Method class pair) = 10
+tag_of (items.InterfaceMethod class pair) = 11
+tag_of (items.NameAndType name desc) = 12
+tag_of (items.MethodHandle kind member) = 15
+tag_of (items.MethodType desc) = 16
+tag_of (items.InvokeDynamic bootstrap pair) = 18
+tag_of items.Hole = 0
+
+-- a tag and numbers are an item's
+pub record Makes (tag : ℕ) (fields : Fields) (item : PoolItem) : Type 0 where
+  pub tag_is : tag ≡ tag_of item
+  pub text_is : item_text item ≡ tag_of item ∷ fields_text fields
+  pub is_item : IsItem item
+  pub short : IsShort item
+  pub whole : is_hole item ≡ false
+
+-- nothing, at a type that is known
+abbrev none : Option PoolItem
+none = None
+
+-- the item of one tag, or of others
+one_of : (tag k : ℕ) (fields : Fields) (made item : PoolItem) (others : Option PoolItem) → cond (eqb tag k) (Some made) others ≡ Some item → (tag ≡ k → Makes tag fields made)
+    → (others ≡ Some item → Makes tag fields item) → Makes tag fields item
+one_of tag k fields made item others e here there = by (eqb tag k) refl e
+  where
+    by : (b : Bool) → eqb tag k ≡ b → cond b (Some made) others ≡ Some item → Makes tag fields item
+    by true t e = given_as (λ (i : PoolItem). Makes tag fields i) made item e (here (eqb-true tag k t))
+    by false t e = there e
+
+-- no item at all
+none_is : (tag : ℕ) (fields : Fields) (item : PoolItem) → none ≡ Some item → Makes tag fields item
+none_is tag fields item e = absurd cc
+
+-- the two halves of a number
+u8_halves : (high low : ℕ) → low < 2 ^ 32 → u8 (high * 2 ^ 32 + low) ≡ u4 high ++ u4 low
+u8_halves high low lt =
+    let h : (high * 2 ^ 32 + low) / 2 ^ 32 ≡ high = div-mul-add high (2 ^ 32) low lt in
+    let l : (high * 2 ^ 32 + low) % 2 ^ 32 ≡ low = mod-mul-add high (2 ^ 32) low lt in
+    ap (λ (n : ℕ). u4 n ++ u4 ((high * 2 ^ 32 + low) % 2 ^ 32)) h ∙ ap (λ (n : ℕ). u4 high ++ u4 n) l
+
+pub item_of_makes : (tag : ℕ) (fields : Fields) (item : PoolItem) → AreFitting fields → item_of tag fields ≡ Some item → Makes tag fields item
+unfolding item_of
+item_of_makes tag (Index n) item fits e =
+    one_of tag 7 (Index n) (items.Class n) item _ e (λ t. record { tag_is = t; text_is = refl; is_item = fits; short = tt; whole = refl })
+    (λ e. one_of tag 8 (Index n) (items.Text n) item _ e (λ t. record { tag_is = t; text_is = refl; is_item = fits; short = tt; whole = refl })
+    (λ e. one_of tag 16 (Index n) (items.MethodType n) item _ e (λ t. record { tag_is = t; text_is = refl; is_item = fits; short = tt; whole = refl })
+    (λ e. none_is tag (Index n) item e)))
+item_of_makes tag (Word n) item fits e =
+    one_of tag 3 (Word n) (items.Integer (cast_signed w32 n)) item _ e (λ t. record { tag_is = t; text_is = ap (λ (k : ℕ). 3 ∷ u4 k) (of_z-to_z w32 n fits); is_item = read_sfits w32 n; short = tt; whole = refl })
+    (λ e. one_of tag 4 (Word n) (items.Float n) item _ e (λ t. record { tag_is = t; text_is = refl; is_item = fits; short = tt; whole = refl })
+    (λ e. none_is tag (Word n) item e))
+item_of_makes tag (Words high low) item fits e =
+    let n = high * 2 ^ 32 + low in
+    let lt : n < 2 ^ 64 = omega (arith, fits.0, fits.1) in
+    one_of tag 5 (Words high low) (items.Long (cast_signed w64 n)) item _ e (λ t. record { tag_is = t; text_is = ap (λ (k : ℕ). 5 ∷ u8 k) (of_z-to_z w64 n lt) ∙ ap (λ (r : List ℕ). 5 ∷ r) (u8_halves high low fits.1); is_item = read_sfits w64 n; short = tt; whole = refl })
+    (λ e. one_of tag 6 (Words high low) (items.Double n) item _ e (λ t. record { tag_is = t; text_is = ap (λ (r : List ℕ). 6 ∷ r) (u8_halves high low fits.1); is_item = lt; short = tt; whole = refl })
+    (λ e. none_is tag (Words high low) item e))
+item_of_makes tag (Pair a b) item fits e =
+    one_of tag 9 (Pair a b) (items.Field a b) item _ e (λ t. record { tag_is = t; text_is = refl; is_item = fits; short = tt; whole = refl })
+    (λ e. one_of tag 10 (Pair a b) (items.Method a b) item _ e (λ t. record { tag_is = t; text_is = refl; is_item = fits; short = tt; whole = refl })
+    (λ e. one_of tag 11 (Pair a b) (items.InterfaceMethod a b) item _ e (λ t. record { tag_is = t; text_is = refl; is_item = fits; short = tt; whole = refl })
+    (λ e. one_of tag 12 (Pair a b) (items.NameAndType a b) item _ e (λ t. record { tag_is = t; text_is = refl; is_item = fits; short = tt; whole = refl })
+    (λ e. one_of tag 18 (Pair a b) (items.InvokeDynamic a b) item _ e (λ t. record { tag_is = t; text_is = refl; is_item = fits; short = tt; whole = refl })
+    (λ e. none_is tag (Pair a b) item e)))))
+item_of_makes tag (Handle kind member) item fits e =
+    one_of tag 15 (Handle kind member) (items.MethodHandle kind member) item _ e (λ t. record { tag_is = t; text_is = refl; is_item = fits; short = tt; whole = refl })
+    (λ e. none_is tag (Handle kind member) item e)

@@ -1,0 +1,68 @@
+ghost use Rattle.std.specs.Prelude.{◌≡◌, ◌+◌, ◌*◌, ◌^◌};
+ghost use Rattle.jv_pool.specs.Reading.{Gives};
+ghost use Rattle.jv_pool.specs.PoolReading.{fields_at, item_of};
+
+use crate::fault::BadPool;
+use crate::item::PoolItem;
+use crate::number::{read_u1, read_u2, read_u4};
+use jv_bytes::Cursor;
+
+/// The numbers behind the tag of an item (JVMS 4.4), by their widths.
+#[derive(Clone, Copy, Debug, PartialEq, Eq)]
+pub enum Fields {
+    Index(u16),
+    Word(u32),
+    Words(u32, u32),
+    Pair(u16, u16),
+    Handle(u8, u16),
+}
+
+/// The numbers of these widths.
+#[tactic(auto, unfolding(crate::specs::PoolReading::fields_at, crate::specs::PoolReading::index_at, crate::specs::PoolReading::word_at, crate::specs::PoolReading::words_at, crate::specs::PoolReading::pair_at, crate::specs::PoolReading::handle_at))]
+pub fn read_fields(cursor: &mut Cursor, parts: &[u8]) -> Result<Fields, BadPool>
+    ensures { Gives (λ x. x) result cursor.new (fields_at parts.now cursor.old) }
+{
+    if parts == [2].as_slice() {
+        Ok(Fields::Index(read_u2(cursor)?))
+    } else if parts == [4].as_slice() {
+        Ok(Fields::Word(read_u4(cursor)?))
+    } else if parts == [4, 4].as_slice() {
+        Ok(Fields::Words(read_u4(cursor)?, read_u4(cursor)?))
+    } else if parts == [2, 2].as_slice() {
+        Ok(Fields::Pair(read_u2(cursor)?, read_u2(cursor)?))
+    } else if parts == [1, 2].as_slice() {
+        Ok(Fields::Handle(read_u1(cursor)?, read_u2(cursor)?))
+    } else {
+        Err(BadPool::Bad)
+    }
+}
+
+/// The bits of a long or double (JVMS 4.4.5).
+fn bits_of(high: u32, low: u32) -> u64
+    ensures { result ≡ high * 2 ^ 32 + low }
+{
+    (u64::from(high) << 32) + u64::from(low)
+}
+
+/// The item of a tag with these numbers. A text has more than its numbers, and is none.
+#[tactic(auto, unfolding(crate::specs::PoolReading::item_of))]
+pub fn item_of(tag: u8, fields: Fields) -> Option<PoolItem>
+    ensures { result ≡ item_of tag fields }
+{
+    match (tag, fields) {
+        (3, Fields::Word(bits)) => Some(PoolItem::Integer(bits.cast_signed())),
+        (4, Fields::Word(bits)) => Some(PoolItem::Float(bits)),
+        (5, Fields::Words(high, low)) => Some(PoolItem::Long(bits_of(high, low).cast_signed())),
+        (6, Fields::Words(high, low)) => Some(PoolItem::Double(bits_of(high, low))),
+        (7, Fields::Index(name)) => Some(PoolItem::Class(name)),
+        (8, Fields::Index(text)) => Some(PoolItem::Text(text)),
+        (9, Fields::Pair(class, pair)) => Some(PoolItem::Field(class, pair)),
+        (10, Fields::Pair(class, pair)) => Some(PoolItem::Method(class, pair)),
+        (11, Fields::Pair(class, pair)) => Some(PoolItem::InterfaceMethod(class, pair)),
+        (12, Fields::Pair(name, desc)) => Some(PoolItem::NameAndType(name, desc)),
+        (15, Fields::Handle(kind, member)) => Some(PoolItem::MethodHandle(kind, member)),
+        (16, Fields::Index(desc)) => Some(PoolItem::MethodType(desc)),
+        (18, Fields::Pair(bootstrap, pair)) => Some(PoolItem::InvokeDynamic(bootstrap, pair)),
+        _ => None,
+    }
+}
