@@ -1,4 +1,4 @@
-ghost use Rattle.std.specs.Prelude.{◌≡◌};
+ghost use Rattle.std.specs.Prelude.{◌≡◌, count_by};
 ghost use Rattle.std.specs.List.{list_any};
 ghost use Rattle.jv_class.specs.ClassTexts.{is_code};
 
@@ -12,6 +12,19 @@ fn is_code(attr: &Attr) -> bool
         AttrBody::Code(_) => true,
         AttrBody::Maps(_) | AttrBody::Raw(_) => false,
     }
+}
+
+/// How many attributes are a method's code.
+pub fn code_count(attrs: &[Attr]) -> usize
+    ensures { result ≡ count_by is_code attrs.now }
+{
+    let mut count = 0;
+    for attr in attrs {
+        if is_code(attr) {
+            count += 1;
+        }
+    }
+    count
 }
 
 /// Whether one of the attributes is a method's code.
