@@ -1,6 +1,6 @@
 -- The text of an attribute (JVMS 4.7, 4.7.3, 4.7.4): the index of its name, the length of its content in
 -- four bytes, and the content.
-use Rattle.std.specs.Prelude.{◌≡◌, ◌<◌, ◌≤◌, ℕ, ◌^◌, Bool, true, false, ◌&&◌, nat_le, IsTrue, List, [], ◌∷◌, ◌++◌, length, Some, codes, count_by}
+use Rattle.std.specs.Prelude.{◌≡◌, ◌<◌, ◌≤◌, ℕ, ◌^◌, Bool, true, false, ◌&&◌, nat_le, ◌||◌, ◌==◌, IsTrue, List, [], ◌∷◌, ◌++◌, length, Some, codes, count_by}
 use Rattle.std.specs.List.{flat_map, AllByRecursion}
 use Rattle.std.specs.Str.{bytes_eq}
 use Rattle.jv_types.specs.declared.raw_handler.RawHandler.{RawHandler}
@@ -93,13 +93,16 @@ has_maps a = is_frames a.body
 abbrev pub handler_text : RawHandler → List ℕ
 handler_text h = u2 h.start ++ u2 h.end ++ u2 h.target ++ u2 h.catch
 
--- its catch type is 0 or names a class
+-- a catch type is 0 or names a class
+abbrev pub is_catch : List PoolItem → ℕ → Bool
+is_catch pool catch = catch == 0 || names is_class pool catch
+
 pub record IsHandler (pool : List PoolItem) (h : RawHandler) : Type 0 where
   pub start : h.start < 2 ^ 16
   pub end : h.end < 2 ^ 16
   pub target : h.target < 2 ^ 16
   pub catch : h.catch < 2 ^ 16
-  pub class : (h.catch ≡ 0 → ⊥) → IsTrue (names is_class pool h.catch)
+  pub class : IsTrue (is_catch pool h.catch)
 
 abbrev pub code_text : CodeAttr → List ℕ
 code_text c = u2 c.max_stack ++ u2 c.max_locals ++ u4 (length c.code) ++ c.code

@@ -1,5 +1,5 @@
 -- The text of a stack map's frames (JVMS 4.7.4).
-use Rattle.std.specs.Prelude.{◌≡◌, ◌<◌, ℕ, ◌+◌, ◌-◌, ◌^◌, Bool, true, false, IsTrue, List, [], ◌∷◌, ◌++◌, length, Option, Some, None, option_map}
+use Rattle.std.specs.Prelude.{◌≡◌, ◌<◌, ℕ, ◌+◌, ◌-◌, ◌^◌, Bool, true, false, not, ◌||◌, ◌==◌, IsTrue, List, [], ◌∷◌, ◌++◌, length, Option, Some, None, option_map}
 use Rattle.std.specs.List.{flat_map, AllByRecursion}
 use Rattle.std.specs.Ordering.{nat_cmp}
 use Rattle.jv_table.specs.Rows.{row_of}
@@ -36,11 +36,14 @@ IsArg None arg = ⊥
 IsArg (Some false) arg = arg ≡ 0
 IsArg (Some true) arg = arg < 2 ^ 16
 
--- a verification type; the number of an object (tag 7) names a class
+-- the number of an object (tag 7) names a class
+abbrev pub is_typed : List PoolItem → ℕ → ℕ → Bool
+is_typed pool tag arg = not (tag == 7) || names is_class pool arg
+
+-- a verification type
 pub record IsType (pool : List PoolItem) (t : MapType) : Type 0 where
-  pub tag : t.tag < 2 ^ 8
   pub arg : IsArg (has_arg t.tag) t.arg
-  pub class : t.tag ≡ 7 → IsTrue (names is_class pool t.arg)
+  pub class : IsTrue (is_typed pool t.tag t.arg)
 
 abbrev pub types_text : List MapType → List ℕ
 types_text types = flat_map type_text types
@@ -72,14 +75,17 @@ HasParts (Some Full) f = f.delta < 2 ^ 16
 
 -- a frame, apart from how many types a full one may have
 pub record IsFrame (pool : List PoolItem) (f : MapFrame) : Type 0 where
-  pub kind : f.kind < 2 ^ 8
   pub parts : HasParts (group_of f.kind) f
   pub locals : AllByRecursion (IsType pool) f.locals
   pub stack : AllByRecursion (IsType pool) f.stack
 
--- its counts of types fit two bytes
+-- the counts of types of a full frame fit two bytes
+abbrev pub HasFewParts : Option FrameGroup → MapFrame → Type 0
+HasFewParts (Some Full) f = (length f.locals < 2 ^ 16) × (length f.stack < 2 ^ 16)
+HasFewParts _ f = Unit {0}
+
 abbrev pub HasFewTypes : MapFrame → Type 0
-HasFewTypes f = (length f.locals < 2 ^ 16) × (length f.stack < 2 ^ 16)
+HasFewTypes f = HasFewParts (group_of f.kind) f
 
 -- the content of a StackMapTable: a count, and as many frames
 abbrev pub frames_text : List MapFrame → List ℕ

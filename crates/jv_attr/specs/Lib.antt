@@ -1,2 +1,5 @@
 pub mod FrameText
 pub mod AttrText
+pub mod Reading
+pub mod AttrReading
+pub mod Few

@@ -1,11 +1,11 @@
 -- What is read from the front is spelled so, and what is spelled so is read: numbers and runs of bytes.
-use Rattle.std.proofs.Common.{◌≡◌, ℕ, ◌+◌, ◌^◌, ◌<◌, ◌≤◌, Bool, true, false, cond, ltb, List, [], ◌∷◌, ◌++◌, length, take, drop, Option, Some, None, refl, sym, ap, subst, ◌∙◌, append_assoc, arith, Bor}
+use Rattle.std.proofs.Common.{◌≡◌, ℕ, ◌^◌, ◌<◌, ◌≤◌, Bool, true, false, cond, ltb, List, [], ◌∷◌, ◌++◌, length, take, drop, Option, Some, None, refl, sym, ap, subst, ◌∙◌, append_assoc, arith, Bor}
 use Rattle.std.specs.Prelude.{IfSome, OnSome, IsNone, ok_or, ◌↔◌}
 use Rattle.std.specs.Str.{bytes_eq}
 use Rattle.std.proofs.lemmas.Bool.{ltb-true, ltb-false, le-ltb, lt-ltb}
 use Rattle.std.proofs.lemmas.List.{take_at, drop_at, take-append-drop, length-append, length-take}
 use Rattle.std.proofs.lemmas.Slice.Eq.{bytes_eq-Decides}
-use Rattle.jv_bytes.specs.Numbers.{IsByteString, number_in, number_text}
+use Rattle.jv_bytes.specs.Numbers.{number_in, number_text}
 use Rattle.jv_bytes.proofs.NumberLaws.{length-number_text, number_text-each, number_in-number_text, number_in-append, number_in-lt}
 use Rattle.jv_pool.specs.Reading.{◌>>=◌, Gives, u1_at, number_at, bytes_at}
 use Rattle.jv_pool.specs.declared.fault.BadPool.TheVariants.{Bad}
@@ -82,7 +82,7 @@ u1_gives None old new found none = ap u1_at (none.0 refl)
 -- ---- a number
 
 -- a number that is read fits its bytes
-number_fits : (n v : ℕ) (bytes rest : List ℕ) → v ≡ number_in n bytes → bytes ≡ number_text n v ++ rest → v < 256 ^ n
+pub number_fits : (n v : ℕ) (bytes rest : List ℕ) → v ≡ number_in n bytes → bytes ≡ number_text n v ++ rest → v < 256 ^ n
 number_fits n v bytes rest read parts =
     let len : n ≤ length (number_text n v) = omega (arith, length-number_text n v) in
     let alone : v ≡ number_in n (number_text n v) = read ∙ ap (number_in n) parts ∙ number_in-append n (number_text n v) rest len in
@@ -109,7 +109,7 @@ number_again n v rest lt =
     rw (read, front, behind, same) refl
 
 -- too few bytes have no number
-number_short : (n : ℕ) (bytes : List ℕ) → length bytes < n → number_at n bytes ≡ None
+pub number_short : (n : ℕ) (bytes : List ℕ) → length bytes < n → number_at n bytes ≡ None
 unfolding number_at
 number_short n bytes lt =
     let v = number_in n bytes in

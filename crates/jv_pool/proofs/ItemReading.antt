@@ -12,12 +12,12 @@ use Rattle.jv_pool.specs.declared.item.PoolItem.{PoolItem}
 use Rattle.jv_pool.specs.declared.item.PoolItem.TheVariants as items
 use Rattle.jv_pool.specs.declared.fields.Fields.{Fields}
 use Rattle.jv_pool.specs.declared.fields.Fields.TheVariants.{Index, Word, Words, Pair, Handle}
-use Rattle.jv_pool.specs.PoolText.{u2, u4, u8, item_text, IsItem, is_wide, is_hole, IsShort}
+use Rattle.jv_pool.specs.PoolText.{u2, item_text, IsItem, is_wide, is_hole, IsShort}
 use Rattle.jv_pool.specs.Reading.{◌>>=◌, u1_at, bytes_at}
 use Rattle.jv_pool.specs.PoolReading.{fields_at, item_of, is_spelled, spelled_at, kept_at, content_at, item_at}
-use Rattle.jv_pool.proofs.Fronts.{bind_some, bind_is, given_as, some_is, past_true, joined, u1_takes, u1_again, bytes_take, bytes_again}
+use Rattle.jv_pool.proofs.Fronts.{bind_some, bind_is, given_as, past_true, u1_takes, u1_again, bytes_take, bytes_again}
 use Rattle.jv_pool.proofs.Units.{spelled_units, units_spelled}
-use Rattle.jv_pool.proofs.Widths.{fields_text, AreFitting, parts_of, fields_take, fields_again, tag_of, Makes, item_of_makes}
+use Rattle.jv_pool.proofs.Widths.{fields_text, AreFitting, parts_of, fields_take, fields_again, tag_of, item_of_makes}
 
 -- an item stands in front of what is left
 pub record TakesItem (bytes : List ℕ) (item : PoolItem) (rest : List ℕ) : Type 0 where

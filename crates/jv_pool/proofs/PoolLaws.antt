@@ -1,5 +1,5 @@
 -- A constant pool that is read is spelled so, and what is spelled so is read.
-use Rattle.std.proofs.Common.{◌≡◌, ℕ, zero, suc, ◌+◌, ◌-◌, ◌^◌, ◌<◌, Bool, true, false, cond, eqb, ◌&&◌, IsTrue, List, [], ◌∷◌, ◌++◌, length, Option, Some, None, Result, Ok, Err, refl, sym, ap, subst, ◌∙◌, append_assoc, arith, IfOk}
+use Rattle.std.proofs.Common.{◌≡◌, ℕ, zero, suc, ◌+◌, ◌-◌, ◌^◌, ◌<◌, Bool, true, false, cond, eqb, IsTrue, List, [], ◌∷◌, ◌++◌, length, Option, Some, None, Result, Ok, Err, refl, sym, ap, subst, ◌∙◌, append_assoc, arith, IfOk}
 use Rattle.std.specs.List.{flat_map, list_all, AllByRecursion}
 use Rattle.std.proofs.lemmas.Bool.{eqb-false, ne_eqb}
 use Rattle.std.proofs.lemmas.List.{append-nil}
@@ -9,8 +9,8 @@ use Rattle.jv_pool.specs.declared.item.PoolItem.TheVariants.{Hole}
 use Rattle.jv_pool.specs.declared.fault.BadPool.{BadPool}
 use Rattle.jv_pool.specs.declared.fault.BadPool.TheVariants.{Bad, Memory}
 use Rattle.jv_pool.specs.PoolText.{u2, item_text, pool_text, IsItem, is_wide, is_hole, HasHoles, is_linked, IsPool, IsShort, IsPoolText, BeginsWithPool}
-use Rattle.jv_pool.specs.Reading.{◌>>=◌, Gives, Fails, number_at}
-use Rattle.jv_pool.specs.PoolReading.{item_at, slot_at, items_at, linked_at, pool_at}
+use Rattle.jv_pool.specs.Reading.{◌>>=◌, Gives, number_at}
+use Rattle.jv_pool.specs.PoolReading.{slot_at, items_at, linked_at, pool_at}
 use Rattle.jv_pool.proofs.Fronts.{bind_some, bind_is, given_as, some_is, past_false, past_true, joined, number_takes, number_again}
 use Rattle.jv_pool.proofs.Units.{both_true}
 use Rattle.jv_pool.proofs.ItemReading.{item_takes, item_again}

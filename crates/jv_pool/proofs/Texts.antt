@@ -1,8 +1,7 @@
 -- Whether bytes are modified UTF-8, unit by unit.
-use Rattle.std.proofs.Common.{◌≡◌, ◌≢◌, ℕ, zero, suc, ◌+◌, ◌-◌, ◌*◌, ◌<◌, ◌≤◌, Bool, true, false, cond, eqb, leb, ltb, ◌&&◌, ◌||◌, List, [], ◌∷◌, ◌++◌, drop, length, refl, sym, ap, subst, ◌∙◌, ◌⊎◌, inl, inr, arith}
-use Rattle.std.proofs.lemmas.Bool.{eqb-true, ltb-true, leb-true}
-use Rattle.jv_bytes.specs.Utf8.{IsUnitText, Begins, IsText}
-use Rattle.jv_pool.specs.PoolReading.{is_one, goes_on, is_two, is_three, second_len, third_len, unit_len, is_spelled}
+use Rattle.std.proofs.Common.{◌≡◌, ℕ, Bool, true, false, cond, eqb, ◌&&◌, List, [], ◌∷◌, drop, length, refl, sym, ap, ◌∙◌, arith}
+use Rattle.std.proofs.lemmas.Bool.{eqb-true}
+use Rattle.jv_pool.specs.PoolReading.{is_one, is_two, is_three, unit_len, is_spelled}
 
 -- ---- one unit after the other
 

@@ -1,20 +1,20 @@
 -- The numbers behind an item's tag that are read are spelled so, and what is spelled so is read; and which
 -- item they make.
-use Rattle.std.proofs.Common.{◌≡◌, ℕ, ◌+◌, ◌*◌, ◌/◌, ◌%◌, ◌^◌, ◌<◌, ℤ, Bool, true, false, cond, eqb, List, [], ◌∷◌, ◌++◌, length, Option, Some, None, refl, sym, ap, subst, ◌∙◌, ◌⊎◌, inl, inr, append_assoc, arith, FitsSigned}
-use Rattle.std.specs.Int.{w32, w64, cast_unsigned, cast_signed}
+use Rattle.std.proofs.Common.{◌≡◌, ℕ, ◌+◌, ◌*◌, ◌/◌, ◌%◌, ◌^◌, ◌<◌, Bool, true, false, cond, eqb, List, [], ◌∷◌, ◌++◌, Option, Some, None, refl, ap, ◌∙◌, ◌⊎◌, inl, inr, append_assoc, arith}
+use Rattle.std.specs.Int.{w32, w64, cast_signed}
 use Rattle.std.specs.Cmp.Lexicographic.{pointwise}
 use Rattle.std.proofs.lemmas.Bool.{eqb-true}
-use Rattle.std.proofs.lemmas.Int.{of_z-to_z, to_z-of_z}
-use Rattle.std.proofs.lemmas.Nat.{div-mul-add, mod-mul-add, div-add-mod'}
+use Rattle.std.proofs.lemmas.Int.{of_z-to_z}
+use Rattle.std.proofs.lemmas.Nat.{div-mul-add, mod-mul-add}
 use borrow.Author.Gap.{read_sfits}
 use Rattle.jv_pool.specs.declared.item.PoolItem.{PoolItem}
 use Rattle.jv_pool.specs.declared.item.PoolItem.TheVariants as items
 use Rattle.jv_pool.specs.declared.fields.Fields.{Fields}
 use Rattle.jv_pool.specs.declared.fields.Fields.TheVariants.{Index, Word, Words, Pair, Handle}
-use Rattle.jv_pool.specs.PoolText.{u2, u4, u8, item_text, IsItem, is_wide, is_hole, IsShort}
+use Rattle.jv_pool.specs.PoolText.{u2, u4, u8, item_text, IsItem, is_hole, IsShort}
 use Rattle.jv_pool.specs.Reading.{◌>>=◌, u1_at, number_at}
 use Rattle.jv_pool.specs.PoolReading.{index_at, word_at, words_at, pair_at, handle_at, fields_at, item_of}
-use Rattle.jv_pool.proofs.Fronts.{bind_some, bind_is, given_as, some_is, joined, u1_takes, u1_again, number_takes, number_again}
+use Rattle.jv_pool.proofs.Fronts.{bind_some, bind_is, given_as, joined, u1_takes, u1_again, number_takes, number_again}
 
 -- the text of the numbers
 abbrev pub fields_text : Fields → List ℕ

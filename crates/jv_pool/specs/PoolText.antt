@@ -1,6 +1,6 @@
 -- The text of a constant pool (JVMS 4.1, 4.4): a count that is one more than the number of indices, and
 -- the items one after the other.
-use Rattle.std.specs.Prelude.{◌≡◌, ◌<◌, ℕ, ◌+◌, ◌-◌, ◌/◌, ◌%◌, ◌^◌, ℤ, Bool, true, false, ◌==◌, ◌&&◌, ◌||◌, nat_lt, IsTrue, if◌then◌else◌, List, [], ◌∷◌, ◌++◌, length, FitsSigned}
+use Rattle.std.specs.Prelude.{◌≡◌, ◌<◌, ℕ, ◌+◌, ◌/◌, ◌%◌, ◌^◌, Bool, true, false, ◌==◌, ◌&&◌, ◌||◌, nat_lt, IsTrue, if◌then◌else◌, List, [], ◌∷◌, ◌++◌, length, FitsSigned}
 use Rattle.std.specs.Int.{w32, w64, cast_unsigned}
 use Rattle.std.specs.List.{flat_map, AllByRecursion}
 use Rattle.jv_bytes.specs.Numbers.{number_text}

@@ -1,3 +1,6 @@
+ghost use Rattle.std.specs.Prelude.{◌≡◌, false, IfOk};
+ghost use Rattle.jv_pool.specs.PoolText.{is_hole};
+
 use super::*;
 use jv_bytes::{Cursor, Writer};
 use jv_types::Seq;
@@ -11,7 +14,9 @@ const EACH_TAG: [u8; 72] = [
     0xfe, 6, 0x3f, 0xf0, 0, 0, 0, 0, 0, 0, 8, 0, 1, 15, 5, 0, 5, 16, 0, 1, 18, 0, 0, 0, 3,
 ];
 
-fn text(alloc: Global, bytes: &[u8]) -> Result<PoolItem, AllocError> {
+fn text(alloc: Global, bytes: &[u8]) -> Result<PoolItem, AllocError>
+    ensures { IfOk result (λ item. is_hole item ≡ false) }
+{
     Ok(PoolItem::Utf8(Seq::from_vec(Vec::from_slice(alloc, bytes)?)))
 }
 

@@ -1,5 +1,5 @@
 -- The map has each item's index, before and after.
-use Rattle.std.proofs.Common.{◌≡◌, ◌≤◌, ◌++◌, ◌+◌, ℕ, Some, None, ap, sym, subst, ◌∙◌, List, length, length-append, arith}
+use Rattle.std.proofs.Common.{◌≡◌, ◌++◌, ◌+◌, ℕ, Some, None, ap, sym, subst, ◌∙◌, List, length, length-append, arith}
 use Rattle.jv_pool.specs.declared.item.PoolItem.{PoolItem}
 use Rattle.jv_pool.specs.Adding.{slots_of, HasPlaces, item_cmp}
 use Rattle.std.specs.BTreeMap.{get, Updates}

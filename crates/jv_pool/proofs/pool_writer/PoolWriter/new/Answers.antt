@@ -1,5 +1,5 @@
 -- No items have no indices.
-use Rattle.std.proofs.Common.{ap, sym, subst, List, [], length, arith}
+use Rattle.std.proofs.Common.{ap, sym, subst, List, length, arith}
 use Rattle.jv_pool.specs.declared.item.PoolItem.{PoolItem}
 use Rattle.jv_pool.specs.Adding.{HasPlaces}
 use Rattle.jv_pool.proofs.AddingLaws.{places_none}

@@ -1,0 +1,34 @@
+-- What holds of each item of a list, from what else does.
+use Rattle.std.proofs.Common.{◌≡◌, ℕ, ◌≤◌, ◌<◌, true, false, List, [], ◌∷◌, length, take, get_or, All, subst, sym, refl}
+use Rattle.std.specs.Prelude.{◌↔◌, IsTrue}
+use Rattle.std.proofs.lemmas.List.{take_all}
+use Rattle.std.proofs.lemmas.List.Elements.{recursion_from_All, All-from_recursion}
+use Rattle.std.specs.List.{AllByRecursion}
+
+pub all_from : {X : Type 0} (P Q : X → Type 0) → ((x : X) → P x → Q x) → (xs : List X) → AllByRecursion P xs → AllByRecursion Q xs
+all_from P Q f [] p = tt
+all_from P Q f (x ∷ xs) p = (f x p.0, all_from P Q f xs p.1)
+
+pub all_from_two : {X : Type 0} (P Q R : X → Type 0) → ((x : X) → P x → Q x → R x) → (xs : List X) → AllByRecursion P xs → AllByRecursion Q xs → AllByRecursion R xs
+all_from_two P Q R f [] p q = tt
+all_from_two P Q R f (x ∷ xs) p q = (f x p.0 q.0, all_from_two P Q R f xs p.1 q.1)
+
+pub all_from_three : {X : Type 0} (P Q R S : X → Type 0) → ((x : X) → P x → Q x → R x → S x) → (xs : List X) → AllByRecursion P xs → AllByRecursion Q xs → AllByRecursion R xs → AllByRecursion S xs
+all_from_three P Q R S f [] p q r = tt
+all_from_three P Q R S f (x ∷ xs) p q r = (f x p.0 q.0 r.0, all_from_three P Q R S f xs p.1 q.1 r.1)
+
+-- ---- loops that ask each item
+
+-- all of them were asked
+pub each_passed : {X : Type 0} (P : X → Type 0) (xs : List X) (i : ℕ) → length xs ≤ i → All P (take i xs) → IsTrue true ↔ AllByRecursion P xs
+each_passed {X} P xs i le h =
+    (λ _. recursion_from_All P xs (subst (λ (ys : List X). All P ys) (take_all i xs le) h), λ _. refl)
+
+-- one of them failed
+pub one_failed : {X : Type 0} (P : X → Type 0) (xs : List X) (i : ℕ) (x : X) → i < length xs → x ≡ get_or xs i x → (P x → ⊥) → IsTrue false ↔ AllByRecursion P xs
+one_failed {X} P xs i x lt is bad =
+    (λ f. absurd cc, λ h. absurd (bad (subst P (sym is) (All-from_recursion P xs h i x lt))))
+
+-- what doesn't hold
+pub refuted : (P : Type 0) → (P → ⊥) → IsTrue false ↔ P
+refuted P none = (λ f. absurd cc, λ h. absurd (none h))

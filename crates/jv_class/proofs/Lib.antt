@@ -1,0 +1,14 @@
+pub mod ListLemmas
+pub mod Errors
+pub mod NumberParts
+pub mod Parts
+pub mod Leading
+pub mod OtherParts
+pub mod LayoutParts
+pub mod AllLemmas
+pub mod LayoutWhole
+pub mod KindLemmas
+pub mod KeptLemmas
+pub mod NumberedTexts
+pub mod DistinctMembers
+pub mod WholeTexts

@@ -1,0 +1,11 @@
+pub mod Numbers
+pub mod Counted
+pub mod ClassTexts
+pub mod PartReading
+pub mod LayoutReading
+pub mod Kinds
+pub mod TextNumbers
+pub mod PoolTexts
+pub mod MemberPairs
+pub mod RuleParts
+pub mod Shapes

@@ -1,0 +1,26 @@
+//! Class files (JVMS 4), both ways: a class value for the bytes of a file, and its one text again.
+#![tactic(auto)]
+
+mod attributes;
+mod class_file;
+mod codes;
+mod distinct;
+mod fault;
+mod indices;
+mod kinds;
+pub mod laws;
+mod layout;
+mod member_rules;
+mod members;
+mod number;
+mod read;
+mod rules;
+mod shaping;
+mod text_key;
+mod text_numbers;
+mod texts;
+
+pub use class_file::{ClassFile, Member};
+pub use fault::BadClass;
+pub use read::read_class;
+pub use shaping::shape;
