@@ -4,3 +4,7 @@ pub mod Frames
 pub mod Returning
 pub mod Instructions
 pub mod Runs
+pub mod Orders
+pub mod Adding
+pub mod Numbers
+pub mod Members

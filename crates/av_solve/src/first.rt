@@ -1,5 +1,12 @@
 ghost use Rattle.av_solve.specs.First.Covered.{ClosedCover};
 
+mod forcing;
+mod found;
+mod giving;
+mod opening;
+mod solver;
+mod step;
+
 /// The law of coverage: facts that are closed under the rules cover each run, its calls and the objects
 /// that stand in frames, in static fields and in the fields of objects.
 pub fn closed_facts_cover()
