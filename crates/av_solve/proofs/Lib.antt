@@ -8,3 +8,4 @@ pub mod Orders
 pub mod Adding
 pub mod Numbers
 pub mod Members
+pub mod Bridging
