@@ -9,3 +9,5 @@ pub mod Adding
 pub mod Numbers
 pub mod Members
 pub mod Bridging
+pub mod Entries
+pub mod Depth

@@ -1,13 +1,18 @@
 -- What is kept of a class for the search: its instructions as the rules see them, and its finalizers.
-use Rattle.std.specs.Prelude.{◌≡◌, ℕ, suc, ◌<◌, ◌^◌, ◌↔◌, List, length, Some, Contains}
+use Rattle.std.specs.Prelude.{◌≡◌, ℕ, suc, ◌<◌, ◌^◌, ◌↔◌, List, length, Some, Contains, codes}
 use Rattle.std.specs.List.{slice_get}
 use Rattle.jv_form.specs.declared.object_class.Placed.{Placed}
 use Rattle.jv_form.specs.declared.object_class.Method.{Method}
 use Rattle.jv_form.specs.declared.object_class.ObjectClass.{ObjectClass}
+use Rattle.jv_types.specs.declared.fact.CallFrom.TheVariants.{Root}
+use Rattle.jv_types.specs.declared.fact.Fact.{Fact}
+use Rattle.jv_types.specs.declared.fact.Fact.TheVariants.{Edge}
+use Rattle.jv_form.specs.Flags.{IsPublic, IsStatic}
+use Rattle.jv_form.specs.Form.{main_desc}
 use Rattle.jv_form.specs.Kinds.{IsKindSafe}
-use Rattle.av_model.specs.First.Machine.{InstructionAt, IsFinalize}
+use Rattle.av_model.specs.First.Machine.{InstructionAt, IsMain, IsFinalize}
 use Rattle.av_solve.specs.declared.first.step.Step.{Step}
-use Rattle.av_solve.specs.First.Names.{pc_of, pc_at}
+use Rattle.av_solve.specs.First.Names.{own, pc_of, pc_at}
 use Rattle.av_solve.specs.First.Depths.{depth_from, depth_at}
 
 -- what is asked of a class whose facts are searched: kind-safe methods, in each of which the offsets rise,
@@ -44,3 +49,15 @@ pub record AreSteps (class : ObjectClass) (steps : List (List Step)) : Type 0 wh
 -- the places of the class's finalizers
 pub record AreFinalizers (class : ObjectClass) (places : List ℕ) : Type 0 where
   pub all : (to : ℕ) → Contains places to ↔ IsFinalize class to
+
+-- public static main of the array of arguments (JVMS 5.2)
+abbrev pub IsMainMethod : Method → Type 0
+IsMainMethod m = (m.name ≡ codes "main") × (m.desc ≡ main_desc) × IsPublic m.access × IsStatic m.access
+
+-- an object's finalizer (JLS 12.6)
+abbrev pub IsFinalizeMethod : Method → Type 0
+IsFinalizeMethod m = (m.name ≡ codes "finalize") × (m.desc ≡ codes "()V") × ¬ IsStatic m.access
+
+-- the library's call of main
+abbrev pub MainEdge : ObjectClass → Fact → Type 0
+MainEdge class fact = (m : ℕ) × IsMain class m × (fact ≡ Edge Root (own m))

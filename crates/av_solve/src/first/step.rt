@@ -69,7 +69,7 @@ pub fn taken(class: &ObjectClass, instruction: Instruction) -> usize
 }
 
 /// How many words an instruction gives to the stack (JVMS 6.5).
-fn given(class: &ObjectClass, instruction: Instruction) -> usize
+pub fn given(class: &ObjectClass, instruction: Instruction) -> usize
     ensures gives { result ≡ given class.now instruction }
     ensures few { result ≤ 2 }
 {
