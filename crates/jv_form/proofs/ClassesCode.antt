@@ -5,7 +5,7 @@ use Rattle.std.proofs.lemmas.Bool.Decides.{nat_tests}
 use Rattle.std.proofs.lemmas.List.{append-nil, nil_from_length}
 use Rattle.jv_form.specs.Layout.{u2, u4, Attribute, attributes_text, Code, code_text, IsCode}
 use Rattle.jv_form.specs.Reading.{◌>>=◌, u2_at, u4_at, bytes_at}
-use Rattle.jv_form.specs.Classes.{IsBytes, code_bytes_at, handlers_at, code_of}
+use Rattle.jv_form.specs.Classes.{IsBytes, code_bytes_at, handlers_at, Content, code_of}
 use Rattle.jv_form.specs.LayoutReading.{passed_at}
 use Rattle.jv_form.proofs.LayoutAttributes.{passed_takes, passed_again}
 use Rattle.jv_form.proofs.LayoutFields.{bind_some, past_false, past_true, some_is, Takes, Takes-then, u2_takes, u2_again, u4_takes, u4_again, bytes_take, bytes_again}
@@ -54,13 +54,16 @@ handlers_again count handlers rest few sized =
     let regrouped : (u2 count ++ handlers) ++ rest ≡ u2 count ++ (handlers ++ rest) = append_assoc (u2 count) handlers rest in
     ap handlers_at regrouped ∙ rw (u2_again count (handlers ++ rest) few, bytes_again handlers rest (8 * count) sized) refl
 
--- the content of a Code with this code and as many handlers
-pub record HasCode (content bytes : List ℕ) (handler_count : ℕ) : Type 0 where
+-- what is kept of a code
+abbrev pub kept_of : Code → Content
+kept_of c = record { max_stack = c.max_stack; max_locals = c.max_locals; bytes = c.bytes; handler_count = c.handler_count }
+
+-- the content of an attribute Code, of which this is kept
+pub record HasCode (content : List ℕ) (x : Content) : Type 0 where
   pub code : Code
   pub is_code : IsCode code
   pub text : content ≡ code_text code
-  pub bytes_is : code.bytes ≡ bytes
-  pub count_is : code.handler_count ≡ handler_count
+  pub kept : kept_of code ≡ x
 
 -- the parts of a code, one after the other
 code_parts : (stack locals count : ℕ) (bytes handlers : List ℕ) (attributes : List Attribute)
@@ -68,16 +71,16 @@ code_parts : (stack locals count : ℕ) (bytes handlers : List ℕ) (attributes 
     ≡ code_text (record { max_stack = stack; max_locals = locals; bytes = bytes; handler_count = count; handlers = handlers; attributes = attributes })
 code_parts stack locals count bytes handlers attributes = simp append_assoc
 
-pub code_takes : (content : List ℕ) (x : List ℕ × ℕ) → IsBytes content → code_of content ≡ Some x → HasCode content x.0 x.1
+pub code_takes : (content : List ℕ) (x : Content) → IsBytes content → code_of content ≡ Some x → HasCode content x
 unfolding code_of
 code_takes content x fits e =
-    let a = bind_some (u2_at content) (λ stack. u2_at stack.1 >>= λ locals. code_bytes_at locals.1 >>= λ code. handlers_at code.1 >>= λ handlers. passed_at handlers.1 >>= λ rest. cond (eqb (length rest) 0) (Some (code.0, handlers.0)) None) x e in
-    let b = bind_some (u2_at a.0.1) (λ locals. code_bytes_at locals.1 >>= λ code. handlers_at code.1 >>= λ handlers. passed_at handlers.1 >>= λ rest. cond (eqb (length rest) 0) (Some (code.0, handlers.0)) None) x a.2 in
-    let c = bind_some (code_bytes_at b.0.1) (λ code. handlers_at code.1 >>= λ handlers. passed_at handlers.1 >>= λ rest. cond (eqb (length rest) 0) (Some (code.0, handlers.0)) None) x b.2 in
-    let d = bind_some (handlers_at c.0.1) (λ handlers. passed_at handlers.1 >>= λ rest. cond (eqb (length rest) 0) (Some (c.0.0, handlers.0)) None) x c.2 in
-    let f = bind_some (passed_at d.0.1) (λ rest. cond (eqb (length rest) 0) (Some (c.0.0, d.0.0)) None) x d.2 in
-    let g = past_true (eqb (length f.0) 0) (Some (c.0.0, d.0.0)) x f.2 in
-    let made : List ℕ × ℕ = (c.0.0, d.0.0) in
+    let a = bind_some (u2_at content) (λ stack. u2_at stack.1 >>= λ locals. code_bytes_at locals.1 >>= λ code. handlers_at code.1 >>= λ handlers. passed_at handlers.1 >>= λ rest. cond (eqb (length rest) 0) (let y : Content = record { max_stack = stack.0; max_locals = locals.0; bytes = code.0; handler_count = handlers.0 } in Some y) None) x e in
+    let b = bind_some (u2_at a.0.1) (λ locals. code_bytes_at locals.1 >>= λ code. handlers_at code.1 >>= λ handlers. passed_at handlers.1 >>= λ rest. cond (eqb (length rest) 0) (let y : Content = record { max_stack = a.0.0; max_locals = locals.0; bytes = code.0; handler_count = handlers.0 } in Some y) None) x a.2 in
+    let c = bind_some (code_bytes_at b.0.1) (λ code. handlers_at code.1 >>= λ handlers. passed_at handlers.1 >>= λ rest. cond (eqb (length rest) 0) (let y : Content = record { max_stack = a.0.0; max_locals = b.0.0; bytes = code.0; handler_count = handlers.0 } in Some y) None) x b.2 in
+    let d = bind_some (handlers_at c.0.1) (λ handlers. passed_at handlers.1 >>= λ rest. cond (eqb (length rest) 0) (let y : Content = record { max_stack = a.0.0; max_locals = b.0.0; bytes = c.0.0; handler_count = handlers.0 } in Some y) None) x c.2 in
+    let f = bind_some (passed_at d.0.1) (λ rest. cond (eqb (length rest) 0) (let y : Content = record { max_stack = a.0.0; max_locals = b.0.0; bytes = c.0.0; handler_count = d.0.0 } in Some y) None) x d.2 in
+    let made : Content = record { max_stack = a.0.0; max_locals = b.0.0; bytes = c.0.0; handler_count = d.0.0 } in
+    let g = past_true (eqb (length f.0) 0) (Some made) x f.2 in
     let nothing : f.0 ≡ [] = nil_from_length f.0 (eqb-true _ _ g.0) in
     let ta = u2_takes content a.0 fits a.1 in
     let tb = u2_takes a.0.1 b.0 ta.0.rest_fits b.1 in
@@ -92,16 +95,14 @@ code_takes content x fits e =
     let text : content ≡ whole = taf.parts ∙ ap (λ (r : List ℕ). whole ++ r) nothing ∙ append-nil whole in
     let code : Code = record { max_stack = a.0.0; max_locals = b.0.0; bytes = c.0.0; handler_count = d.0.0; handlers = td.0; attributes = tf.attributes } in
     let fitting : IsCode code = record { max_stack = ta.1; max_locals = tb.1; not_empty = tc.1; short = tc.2; handler_count = td.2; handlers = td.1; attributes = tf.are_attributes } in
-    let is = some_is made x g.1 in
     record {
       code = code;
       is_code = fitting;
       text = text ∙ code_parts a.0.0 b.0.0 d.0.0 c.0.0 td.0 tf.attributes;
-      bytes_is = ap (λ (y : List ℕ × ℕ). y.0) is;
-      count_is = ap (λ (y : List ℕ × ℕ). y.1) is;
+      kept = some_is made x g.1;
     }
 
-pub code_again : (c : Code) → IsCode c → code_of (code_text c) ≡ Some (c.bytes, c.handler_count)
+pub code_again : (c : Code) → IsCode c → code_of (code_text c) ≡ Some (kept_of c)
 unfolding code_of
 code_again c fits =
     let attributes = attributes_text c.attributes in

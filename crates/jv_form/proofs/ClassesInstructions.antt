@@ -1,132 +1,168 @@
 -- The instructions that are read stand in the bytes, and those that stand in the bytes are read.
-use Rattle.std.proofs.Common.{◌≡◌, ℕ, zero, suc, ◌+◌, ◌≤◌, ◌<◌, ◌^◌, true, cond, eqb, leb, ◌&&◌, ◌||◌, List, [], ◌∷◌, ◌++◌, length, Option, Some, None, refl, sym, ap, subst, ◌∙◌, arith, inl, inr, Decides}
-use Rattle.std.specs.Int.{w16, from_be_bytes}
+use Rattle.std.proofs.Common.{◌≡◌, ℕ, zero, suc, ◌+◌, ◌-◌, ◌≤◌, ◌<◌, ◌^◌, eqb, List, [], ◌∷◌, ◌++◌, length, Option, Some, None, refl, sym, ap, subst, ◌∙◌, arith, inl, inr}
 use Rattle.std.proofs.lemmas.Bool.{eqb-true}
-use Rattle.std.proofs.lemmas.Bool.Decides.{nat_tests, Decides-and, Decides-or, Decides-eqb}
-use Rattle.std.proofs.lemmas.Nat.{be_bytes_2, from_be_bytes-to_be_bytes_2}
+use Rattle.std.proofs.lemmas.List.{nil_from_length, length-append}
 use Rattle.jv_form.specs.declared.outline.Entry.{Entry}
-use Rattle.jv_form.specs.declared.static_class.Instruction.{Instruction}
-use Rattle.jv_form.specs.declared.static_class.Instruction.TheVariants.{Plain, Call, Return}
-use Rattle.jv_form.specs.declared.static_class.Placed.{Placed}
-use Rattle.jv_form.specs.declared.static_class.StaticClass.{StaticClass}
+use Rattle.jv_form.specs.declared.object_class.Instruction.{Instruction}
+use Rattle.jv_form.specs.declared.object_class.Instruction.TheVariants.{PushWord, Load, Store}
+use Rattle.jv_form.specs.declared.object_class.Placed.{Placed}
+use Rattle.jv_form.specs.declared.object_class.ObjectClass.{ObjectClass}
+use Rattle.jv_form.specs.declared.opcode.Format.{Format}
+use Rattle.jv_form.specs.declared.opcode.Format.TheVariants.{Alone, Byte, Short, LoadAt, StoreAt, Named}
+use Rattle.jv_form.specs.declared.target.Target.{Target}
 use Rattle.jv_form.specs.Layout.{u2}
-use Rattle.jv_form.specs.Form.{IsPlainOpcode, IsReturnOpcode, IsCallee, IsInstruction, AreInstructions}
-use Rattle.jv_form.specs.Reading.{◌>>=◌}
+use Rattle.jv_form.specs.Opcodes.{format_of, named}
+use Rattle.jv_form.specs.ObjectForm.{IsTarget, Spells, IsInstruction, AreInstructions}
+use Rattle.jv_form.specs.Reading.{◌>>=◌, u1_at, u2_at}
 use Rattle.jv_form.specs.Classes.{IsBytes}
-use Rattle.jv_form.specs.ClassesBodies.{is_plain, is_return, before, placed_from}
+use Rattle.jv_form.specs.ClassesBodies.{named_at, operands_at, step_at, before, placed_at}
 use Rattle.jv_form.proofs.ClassesSteps.{chosen}
-use Rattle.jv_form.proofs.LayoutFields.{bind_some, past_true, some_is, IsBytes-rest}
+use Rattle.jv_form.proofs.ClassesTurns.{placed_none, placed_step, then_placed}
+use Rattle.jv_form.proofs.ClassesTypes.{one_takes}
+use Rattle.jv_form.proofs.LayoutFields.{bind_some, given_as, IsBytes-rest, u2_takes, u2_again}
 
-pub Decides-leb : (a b : ℕ) → Decides (leb a b) (a ≤ b)
-Decides-leb a b = (λ e. grind (arith, nat_tests), λ h. grind (arith, nat_tests))
+-- what a table has is what the pool names
+pub record KnowsTargets (pool : List Entry) (class : ObjectClass) (target : ℕ → Option Target) : Type 0 where
+  pub sound : (i : ℕ) (t : Target) → i < 2 ^ 16 → target i ≡ Some t → IsTarget pool class i t
+  pub complete : (i : ℕ) (t : Target) → i < 2 ^ 16 → IsTarget pool class i t → target i ≡ Some t
 
-Decides-plain : (op : ℕ) → Decides (is_plain op) (IsPlainOpcode op)
-Decides-plain op =
-    Decides-or (leb 2 op && leb op 8) ((leb 26 op && leb op 29) || eqb op 87) (Decides-and (leb 2 op) (leb op 8) (Decides-leb 2 op) (Decides-leb op 8))
-    (Decides-or (leb 26 op && leb op 29) (eqb op 87) (Decides-and (leb 26 op) (leb op 29) (Decides-leb 26 op) (Decides-leb op 29)) (Decides-eqb op 87))
+-- ---- one instruction
 
-Decides-return : (op : ℕ) → Decides (is_return op) (IsReturnOpcode op)
-Decides-return op = Decides-or (eqb op 172) (eqb op 177) (Decides-eqb op 172) (Decides-eqb op 177)
+-- the bytes behind an opcode are what follows it in the text of an instruction
+record TakesOperands (pool : List Entry) (class : ObjectClass) (op : ℕ) (format : Format) (bytes : List ℕ) (x : Instruction × List ℕ) : Type 0 where
+  operands : List ℕ
+  parts : bytes ≡ operands ++ x.1
+  rest_fits : IsBytes x.1
+  spells : Spells pool class op format (op ∷ operands) x.0
 
--- what a table of callees has is what the pool names
-pub record KnowsCallees (pool : List Entry) (class : StaticClass) (callee : ℕ → Option ℕ) : Type 0 where
-  pub sound : (i place : ℕ) → i < 2 ^ 16 → callee i ≡ Some place → IsCallee pool class i place
-  pub complete : (i place : ℕ) → i < 2 ^ 16 → IsCallee pool class i place → callee i ≡ Some place
+operands_take : (pool : List Entry) (class : ObjectClass) (target : ℕ → Option Target) → KnowsTargets pool class target → (op : ℕ) (format : Format) (bytes : List ℕ) (x : Instruction × List ℕ) → IsBytes bytes
+    → operands_at target op format bytes ≡ Some x → TakesOperands pool class op format bytes x
+unfolding operands_at named_at
+operands_take pool class target knows op (Alone i) bytes x fits e =
+    given_as (TakesOperands pool class op (Alone i) bytes) (i, bytes) x e (record { operands = []; parts = refl; rest_fits = fits; spells = (refl, refl) })
+operands_take pool class target knows op Byte bytes x fits e =
+    let a = bind_some (u1_at bytes) (λ value. Some (PushWord, value.1)) x e in
+    let is = one_takes bytes a.0 a.1 in
+    given_as (TakesOperands pool class op Byte bytes) (PushWord, a.0.1) x a.2
+    (record { operands = a.0.0 ∷ []; parts = is; rest_fits = IsBytes-rest a.0.0 a.0.1 (subst IsBytes is fits); spells = (a.0.0, refl, refl) })
+operands_take pool class target knows op Short bytes x fits e =
+    let a = bind_some (u2_at bytes) (λ value. Some (PushWord, value.1)) x e in
+    let t = u2_takes bytes a.0 fits a.1 in
+    given_as (TakesOperands pool class op Short bytes) (PushWord, a.0.1) x a.2
+    (record { operands = u2 a.0.0; parts = t.0.parts; rest_fits = t.0.rest_fits; spells = (a.0.0, t.1, refl, refl) })
+operands_take pool class target knows op (LoadAt kind) bytes x fits e =
+    let a = bind_some (u1_at bytes) (λ local. Some (Load kind local.0, local.1)) x e in
+    let is = one_takes bytes a.0 a.1 in
+    given_as (TakesOperands pool class op (LoadAt kind) bytes) (Load kind a.0.0, a.0.1) x a.2
+    (record { operands = a.0.0 ∷ []; parts = is; rest_fits = IsBytes-rest a.0.0 a.0.1 (subst IsBytes is fits); spells = (a.0.0, refl, refl) })
+operands_take pool class target knows op (StoreAt kind) bytes x fits e =
+    let a = bind_some (u1_at bytes) (λ local. Some (Store kind local.0, local.1)) x e in
+    let is = one_takes bytes a.0 a.1 in
+    given_as (TakesOperands pool class op (StoreAt kind) bytes) (Store kind a.0.0, a.0.1) x a.2
+    (record { operands = a.0.0 ∷ []; parts = is; rest_fits = IsBytes-rest a.0.0 a.0.1 (subst IsBytes is fits); spells = (a.0.0, refl, refl) })
+operands_take pool class target knows op Named bytes x fits e =
+    let a = bind_some (u2_at bytes) (λ index. target index.0 >>= λ found. named op found >>= λ instruction. Some (instruction, index.1)) x e in
+    let b = bind_some (target a.0.0) (λ found. named op found >>= λ instruction. Some (instruction, a.0.1)) x a.2 in
+    let c = bind_some (named op b.0) (λ instruction. Some (instruction, a.0.1)) x b.2 in
+    let t = u2_takes bytes a.0 fits a.1 in
+    given_as (TakesOperands pool class op Named bytes) (c.0, a.0.1) x c.2
+    (record { operands = u2 a.0.0; parts = t.0.parts; rest_fits = t.0.rest_fits; spells = (a.0.0, b.0, t.1, refl, knows.sound a.0.0 b.0 t.1 b.1, c.1) })
 
--- two bytes are bytes
-two_bytes : (b c : ℕ) → b < 256 → c < 256 → IsBytes (b ∷ c ∷ [])
-two_bytes b c h k zero = h
-two_bytes b c h k (suc zero) = k
-two_bytes b c h k (suc (suc i)) = omega arith
+-- an instruction stands at the front
+pub record TakesStep (pool : List Entry) (class : ObjectClass) (bytes : List ℕ) (x : Instruction × List ℕ) : Type 0 where
+  pub front : List ℕ
+  pub parts : bytes ≡ front ++ x.1
+  pub rest_fits : IsBytes x.1
+  pub is_instruction : IsInstruction pool class front x.0
 
-plain_first : (pool : List Entry) (class : StaticClass) (pc op : ℕ) (rest : List ℕ) (others : List Placed) → is_plain op ≡ true
-    → AreInstructions pool class (pc + 1) rest others → AreInstructions pool class pc (op ∷ rest) (record { pc = pc; instruction = Plain } ∷ others)
-plain_first pool class pc op rest [] e h = absurd h
-plain_first pool class pc op rest (second ∷ others) e h = (op ∷ [], rest, refl, refl, (op, refl, (Decides-plain op).0 e), h)
+pub step_takes : (pool : List Entry) (class : ObjectClass) (target : ℕ → Option Target) → KnowsTargets pool class target → (bytes : List ℕ) (x : Instruction × List ℕ) → IsBytes bytes
+    → step_at target bytes ≡ Some x → TakesStep pool class bytes x
+unfolding step_at
+step_takes pool class target knows [] x fits e = absurd cc
+step_takes pool class target knows (op ∷ bytes) x fits e =
+    let a = bind_some (format_of op) (λ format. operands_at target op format bytes) x e in
+    let t = operands_take pool class target knows op a.0 bytes x (IsBytes-rest op bytes fits) a.2 in
+    record { front = op ∷ t.operands; parts = ap (λ (r : List ℕ). op ∷ r) t.parts; rest_fits = t.rest_fits; is_instruction = (op, a.0, a.1, t.spells) }
 
-call_first : (pool : List Entry) (class : StaticClass) (pc index place : ℕ) (rest : List ℕ) (others : List Placed) → index < 2 ^ 16 → IsCallee pool class index place
-    → AreInstructions pool class (pc + 3) rest others → AreInstructions pool class pc (184 ∷ u2 index ++ rest) (record { pc = pc; instruction = Call place } ∷ others)
-call_first pool class pc index place rest [] lt callee h = absurd h
-call_first pool class pc index place rest (second ∷ others) lt callee h = (184 ∷ u2 index, rest, refl, refl, (index, lt, refl, callee), h)
+spelled_again : (pool : List Entry) (class : ObjectClass) (target : ℕ → Option Target) → KnowsTargets pool class target → (op : ℕ) (format : Format) (front rest : List ℕ) (i : Instruction)
+    → format_of op ≡ Some format → Spells pool class op format front i → step_at target (front ++ rest) ≡ Some (i, rest)
+unfolding step_at operands_at named_at
+spelled_again pool class target knows op (Alone j) front rest i f h =
+    ap (λ (t : List ℕ). step_at target (t ++ rest)) h.0 ∙ rw f (ap (λ (k : Instruction). let y : Instruction × List ℕ = (k, rest) in Some y) (sym h.1))
+spelled_again pool class target knows op Byte front rest i f h =
+    ap (λ (t : List ℕ). step_at target (t ++ rest)) h.1 ∙ rw f (ap (λ (k : Instruction). let y : Instruction × List ℕ = (k, rest) in Some y) (sym h.2))
+spelled_again pool class target knows op Short front rest i f h =
+    ap (λ (t : List ℕ). step_at target (t ++ rest)) h.2 ∙ rw (f, u2_again h.0 rest h.1) (ap (λ (k : Instruction). let y : Instruction × List ℕ = (k, rest) in Some y) (sym h.3))
+spelled_again pool class target knows op (LoadAt kind) front rest i f h =
+    ap (λ (t : List ℕ). step_at target (t ++ rest)) h.1 ∙ rw f (ap (λ (k : Instruction). let y : Instruction × List ℕ = (k, rest) in Some y) (sym h.2))
+spelled_again pool class target knows op (StoreAt kind) front rest i f h =
+    ap (λ (t : List ℕ). step_at target (t ++ rest)) h.1 ∙ rw f (ap (λ (k : Instruction). let y : Instruction × List ℕ = (k, rest) in Some y) (sym h.2))
+spelled_again pool class target knows op Named front rest i f h =
+    ap (λ (t : List ℕ). step_at target (t ++ rest)) h.3 ∙ rw (f, u2_again h.0 rest h.2, knows.complete h.0 h.1 h.2 h.4, h.5) refl
 
-pub instructions_take : (pool : List Entry) (class : StaticClass) (callee : ℕ → Option ℕ) → KnowsCallees pool class callee → (pc : ℕ) (bytes : List ℕ) (list : List Placed)
-    → IsBytes bytes → placed_from callee pc bytes ≡ Some list → AreInstructions pool class pc bytes list
-unfolding placed_from
-instructions_take pool class callee knows pc [] list fits e = absurd cc
-instructions_take pool class callee knows pc (op ∷ []) list fits e =
-    let last : Placed = record { pc = pc; instruction = Return } in
-    let a = past_true (is_return op) (Some (last ∷ [])) list e in
-    subst (AreInstructions pool class pc (op ∷ [])) (some_is (last ∷ []) list a.1) (op, refl, (Decides-return op).0 a.0, refl, refl)
-instructions_take pool class callee knows pc (op ∷ b ∷ []) list fits e =
-    let first : Placed = record { pc = pc; instruction = Plain } in
-    let a = past_true (is_plain op) (before first (placed_from callee (pc + 1) (b ∷ []))) list e in
-    let d = bind_some (placed_from callee (pc + 1) (b ∷ [])) (λ others. Some (first ∷ others)) list a.1 in
-    let later = instructions_take pool class callee knows (pc + 1) (b ∷ []) d.0 (IsBytes-rest op (b ∷ []) fits) d.1 in
-    subst (AreInstructions pool class pc (op ∷ b ∷ [])) (some_is (first ∷ d.0) list d.2) (plain_first pool class pc op (b ∷ []) d.0 a.0 later)
-instructions_take pool class callee knows pc (op ∷ b ∷ c ∷ rest) list fits e =
-    let first : Placed = record { pc = pc; instruction = Plain } in
-    let index = from_be_bytes w16 (b ∷ c ∷ []) in
-    let called = (callee index >>= λ place. before (record { pc = pc; instruction = Call place }) (placed_from callee (pc + 3) rest)) in
-    elim (chosen (is_plain op) (before first (placed_from callee (pc + 1) (b ∷ c ∷ rest))) (cond (eqb op 184) called None) (Some list) e) [
-      | inl h ↦
-          let d = bind_some (placed_from callee (pc + 1) (b ∷ c ∷ rest)) (λ others. Some (first ∷ others)) list h.1 in
-          let later = instructions_take pool class callee knows (pc + 1) (b ∷ c ∷ rest) d.0 (IsBytes-rest op (b ∷ c ∷ rest) fits) d.1 in
-          subst (AreInstructions pool class pc (op ∷ b ∷ c ∷ rest)) (some_is (first ∷ d.0) list d.2) (plain_first pool class pc op (b ∷ c ∷ rest) d.0 h.0 later)
+pub step_again : (pool : List Entry) (class : ObjectClass) (target : ℕ → Option Target) → KnowsTargets pool class target → (front rest : List ℕ) (i : Instruction) → IsInstruction pool class front i
+    → step_at target (front ++ rest) ≡ Some (i, rest)
+step_again pool class target knows front rest i h = spelled_again pool class target knows h.0 h.1 front rest i h.2 h.3
+
+-- an instruction has a byte or more
+spelled_some : (pool : List Entry) (class : ObjectClass) (op : ℕ) (format : Format) (front : List ℕ) (i : Instruction) → Spells pool class op format front i → (others : List ℕ) × (front ≡ op ∷ others)
+spelled_some pool class op (Alone j) front i h = ([], h.0)
+spelled_some pool class op Byte front i h = (h.0 ∷ [], h.1)
+spelled_some pool class op Short front i h = (u2 h.0, h.2)
+spelled_some pool class op (LoadAt kind) front i h = (h.0 ∷ [], h.1)
+spelled_some pool class op (StoreAt kind) front i h = (h.0 ∷ [], h.1)
+spelled_some pool class op Named front i h = (u2 h.0, h.3)
+
+pub instruction_some : (pool : List Entry) (class : ObjectClass) (front : List ℕ) (i : Instruction) → IsInstruction pool class front i → 0 < length front
+instruction_some pool class front i h =
+    let s = spelled_some pool class h.0 h.1 front i h.3 in
+    let len = ap length s.1 in
+    omega (arith, len)
+
+-- ---- all instructions
+
+placed_is : (p : Placed) (pc : ℕ) → p.pc ≡ pc → record { pc = pc; instruction = p.instruction } ≡ p
+placed_is p pc e = ap (λ (k : ℕ). let x : Placed = record { pc = k; instruction = p.instruction } in x) (sym e)
+
+pub placed_take : (pool : List Entry) (class : ObjectClass) (target : ℕ → Option Target) → KnowsTargets pool class target → (n pc : ℕ) (bytes : List ℕ) (list : List Placed) → IsBytes bytes
+    → placed_at n target pc bytes ≡ Some list → AreInstructions pool class pc bytes list
+unfolding placed_at
+placed_take pool class target knows zero pc bytes list fits e =
+    elim (chosen (eqb (length bytes) 0) (Some []) None (Some list) e) [
+      | inl h ↦ given_as (AreInstructions pool class pc bytes) [] list h.1 (nil_from_length bytes (eqb-true (length bytes) 0 h.0))
+      | inr h ↦ absurd (let no : None ≡ Some list = h.1 in cc)
+    ]
+placed_take pool class target knows (suc n) pc bytes list fits e =
+    elim (chosen (eqb (length bytes) 0) (Some []) (step_at target bytes >>= then_placed n target pc (length bytes)) (Some list) e) [
+      | inl h ↦ given_as (AreInstructions pool class pc bytes) [] list h.1 (nil_from_length bytes (eqb-true (length bytes) 0 h.0))
       | inr h ↦
-          let a = past_true (eqb op 184) called list h.1 in
-          let p = bind_some (callee index) (λ place. before (record { pc = pc; instruction = Call place }) (placed_from callee (pc + 3) rest)) list a.1 in
-          let call : Placed = record { pc = pc; instruction = Call p.0 } in
-          let d = bind_some (placed_from callee (pc + 3) rest) (λ others. Some (call ∷ others)) list p.2 in
-          let rest_fits = IsBytes-rest c rest (IsBytes-rest b (c ∷ rest) (IsBytes-rest op (b ∷ c ∷ rest) fits)) in
-          let later = instructions_take pool class callee knows (pc + 3) rest d.0 rest_fits d.1 in
-          let small : index < 2 ^ 16 = omega (arith, fits 1, fits 2) in
-          let spelled : u2 index ≡ b ∷ c ∷ [] = be_bytes_2 (b ∷ c ∷ []) index refl (two_bytes b c (fits 1) (fits 2)) refl in
-          let whole = call_first pool class pc index p.0 rest d.0 small (knows.sound index p.0 small p.1) later in
-          let bytes : 184 ∷ u2 index ++ rest ≡ op ∷ b ∷ c ∷ rest = ap (λ (x : List ℕ). 184 ∷ x ++ rest) spelled ∙ ap (λ (o : ℕ). o ∷ b ∷ c ∷ rest) (sym (eqb-true op 184 a.0)) in
-          subst (AreInstructions pool class pc (op ∷ b ∷ c ∷ rest)) (some_is (call ∷ d.0) list d.2) (subst (λ (x : List ℕ). AreInstructions pool class pc x (call ∷ d.0)) bytes whole)
+          let a = bind_some (step_at target bytes) (then_placed n target pc (length bytes)) list h.1 in
+          let first : Placed = record { pc = pc; instruction = a.0.0 } in
+          let b = bind_some (placed_at n target (pc + (length bytes - length a.0.1)) a.0.1) (λ others. Some (first ∷ others)) list a.2 in
+          let t = step_takes pool class target knows bytes a.0 fits a.1 in
+          let len = ap length t.parts in
+          let on : length bytes - length a.0.1 ≡ length t.front = omega (arith, len, length-append t.front a.0.1) in
+          let later = placed_take pool class target knows n (pc + (length bytes - length a.0.1)) a.0.1 b.0 t.rest_fits b.1 in
+          let moved : AreInstructions pool class (pc + length t.front) a.0.1 b.0 = subst (λ (k : ℕ). AreInstructions pool class (pc + k) a.0.1 b.0) on later in
+          given_as (AreInstructions pool class pc bytes) (first ∷ b.0) list b.2 (t.front, a.0.1, t.parts, refl, t.is_instruction, moved)
     ]
 
--- ---- what stands in the bytes is read
-
-placed_is : (p : Placed) (pc : ℕ) (i : Instruction) → p.pc ≡ pc → p.instruction ≡ i → record { pc = pc; instruction = i } ≡ p
-placed_is p pc i e f =
-    let moved : Placed = record { pc = pc; instruction = p.instruction } in
-    let first : record { pc = pc; instruction = i } ≡ moved = ap (λ (j : Instruction). let x : Placed = record { pc = pc; instruction = j } in x) (sym f) in
-    let second : moved ≡ p = ap (λ (k : ℕ). let x : Placed = record { pc = k; instruction = p.instruction } in x) (sym e) in
-    first ∙ second
-
-plain_again : (callee : ℕ → Option ℕ) (pc op : ℕ) (rest : List ℕ) (others : List Placed) → is_plain op ≡ true → placed_from callee (pc + 1) rest ≡ Some others
-    → placed_from callee pc (op ∷ rest) ≡ Some (record { pc = pc; instruction = Plain } ∷ others)
-unfolding placed_from
-plain_again callee pc op [] others plain e = absurd cc
-plain_again callee pc op (b ∷ []) others plain e = rw (plain, e) refl
-plain_again callee pc op (b ∷ c ∷ rest) others plain e = rw (plain, e) refl
-
-call_again : (callee : ℕ → Option ℕ) (pc index place : ℕ) (rest : List ℕ) (others : List Placed) → index < 2 ^ 16 → callee index ≡ Some place → placed_from callee (pc + 3) rest ≡ Some others
-    → placed_from callee pc (184 ∷ u2 index ++ rest) ≡ Some (record { pc = pc; instruction = Call place } ∷ others)
-unfolding placed_from
-call_again callee pc index place rest others lt found e =
-    let back : callee (from_be_bytes w16 (u2 index)) ≡ Some place = ap callee (from_be_bytes-to_be_bytes_2 index lt) ∙ found in
-    ap (λ (o : Option ℕ). o >>= λ p. before (record { pc = pc; instruction = Call p }) (placed_from callee (pc + 3) rest)) back ∙ ap (before (record { pc = pc; instruction = Call place })) e
-
-step_again : (pool : List Entry) (class : StaticClass) (callee : ℕ → Option ℕ) → KnowsCallees pool class callee → (pc : ℕ) (i : Instruction) (front rest : List ℕ) (others : List Placed)
-    → IsInstruction pool class front i → placed_from callee (pc + length front) rest ≡ Some others → placed_from callee pc (front ++ rest) ≡ Some (record { pc = pc; instruction = i } ∷ others)
-step_again pool class callee knows pc Plain front rest others h e =
-    let later : placed_from callee (pc + 1) rest ≡ Some others = ap (λ (f : List ℕ). placed_from callee (pc + length f) rest) (sym h.1) ∙ e in
-    ap (λ (f : List ℕ). placed_from callee pc (f ++ rest)) h.1 ∙ plain_again callee pc h.0 rest others ((Decides-plain h.0).1 h.2) later
-step_again pool class callee knows pc (Call place) front rest others h e =
-    let later : placed_from callee (pc + 3) rest ≡ Some others = ap (λ (f : List ℕ). placed_from callee (pc + length f) rest) (sym h.2) ∙ e in
-    ap (λ (f : List ℕ). placed_from callee pc (f ++ rest)) h.2 ∙ call_again callee pc h.0 place rest others h.1 (knows.complete h.0 place h.1 h.3) later
-step_again pool class callee knows pc Return front rest others h e = absurd h
-
-pub instructions_again : (pool : List Entry) (class : StaticClass) (callee : ℕ → Option ℕ) → KnowsCallees pool class callee → (pc : ℕ) (bytes : List ℕ) (list : List Placed)
-    → AreInstructions pool class pc bytes list → placed_from callee pc bytes ≡ Some list
-unfolding placed_from
-instructions_again pool class callee knows pc bytes [] h = absurd h
-instructions_again pool class callee knows pc bytes (last ∷ []) h =
-    let only : placed_from callee pc (h.0 ∷ []) ≡ Some (record { pc = pc; instruction = Return } ∷ []) = rw ((Decides-return h.0).1 h.2) refl in
-    ap (placed_from callee pc) h.1 ∙ only ∙ ap (λ (p : Placed). Some (p ∷ [])) (placed_is last pc Return h.3 h.4)
-instructions_again pool class callee knows pc bytes (first ∷ second ∷ others) h =
-    let later = instructions_again pool class callee knows (pc + length h.0) h.1 (second ∷ others) h.5 in
-    let step = step_again pool class callee knows pc first.instruction h.0 h.1 (second ∷ others) h.4 later in
-    ap (placed_from callee pc) h.2 ∙ step ∙ ap (λ (p : Placed). Some (p ∷ second ∷ others)) (placed_is first pc first.instruction h.3 refl)
+pub placed_again : (pool : List Entry) (class : ObjectClass) (target : ℕ → Option Target) → KnowsTargets pool class target → (n pc : ℕ) (bytes : List ℕ) (list : List Placed)
+    → length bytes ≤ n → AreInstructions pool class pc bytes list → placed_at n target pc bytes ≡ Some list
+placed_again pool class target knows n pc bytes [] le h = placed_none n target pc bytes (ap length h)
+placed_again pool class target knows zero pc bytes (first ∷ others) le h =
+    let some = instruction_some pool class h.0 first.instruction h.4 in
+    let len = ap length h.2 in
+    absurd (omega (arith, le, some, len, length-append h.0 h.1))
+placed_again pool class target knows (suc n) pc bytes (first ∷ others) le h =
+    let some = instruction_some pool class h.0 first.instruction h.4 in
+    let len = ap length h.2 in
+    let positive : 0 < length bytes = omega (arith, some, len, length-append h.0 h.1) in
+    let on : length h.0 ≡ length bytes - length h.1 = omega (arith, len, length-append h.0 h.1) in
+    let later = placed_again pool class target knows n (pc + length h.0) h.1 others (omega (arith, le, some, len, length-append h.0 h.1)) h.5 in
+    let moved : placed_at n target (pc + (length bytes - length h.1)) h.1 ≡ Some others = subst (λ (k : ℕ). placed_at n target (pc + k) h.1 ≡ Some others) on later in
+    let step : step_at target bytes ≡ Some (first.instruction, h.1) = ap (step_at target) h.2 ∙ step_again pool class target knows h.0 h.1 first.instruction h.4 in
+    placed_step n target pc bytes positive
+    ∙ ap (λ (o : Option (Instruction × List ℕ)). o >>= then_placed n target pc (length bytes)) step
+    ∙ ap (before (record { pc = pc; instruction = first.instruction })) moved
+    ∙ ap (λ (p : Placed). Some (p ∷ others)) (placed_is first pc h.3)

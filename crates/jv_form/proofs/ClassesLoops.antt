@@ -10,7 +10,7 @@ use Rattle.jv_form.specs.ClassesHeads.{each}
 abbrev pub with_front : {A : Type 0} → List A → Option (List A) → Option (List A)
 with_front front read = read >>= λ others. Some (front ++ others)
 
-front_each : {A : Type 0} (front : List A) (y : A) (read : Option (List A)) → with_front front (read >>= λ ys. Some (y ∷ ys)) ≡ with_front (front ++ y ∷ []) read
+pub front_each : {A : Type 0} (front : List A) (y : A) (read : Option (List A)) → with_front front (read >>= λ ys. Some (y ∷ ys)) ≡ with_front (front ++ y ∷ []) read
 front_each front y None = refl
 front_each {A} front y (Some ys) = ap (λ (list : List A). Some list) (simp append_assoc)
 
@@ -40,3 +40,19 @@ unfolding each
 each_done {A} {B} f xs front i total le so_far =
     let read : each f (drop i xs) ≡ Some [] = ap (each f) (drop_all i xs le) in
     sym so_far ∙ ap (with_front front) read ∙ ap (λ (list : List B). Some list) (append-nil front)
+
+-- the same of an element that is told with another one in its place
+pub each_goes_on_or : {A B : Type 0} (f : A → Option B) (xs : List A) (front : List B) (i : ℕ) (d : A) (y : B) (total : Option (List B)) → i < length xs → f (get_or xs i d) ≡ Some y
+    → with_front front (each f (drop i xs)) ≡ total → with_front (front ++ y ∷ []) (each f (drop (i + 1) xs)) ≡ total
+unfolding each
+each_goes_on_or f xs front i d y total lt e so_far =
+    let read : each f (drop i xs) ≡ (each f (drop (i + 1) xs) >>= λ ys. Some (y ∷ ys)) = ap (each f) (drop_more xs i d lt) ∙ rw e refl in
+    sym (front_each front y (each f (drop (i + 1) xs))) ∙ ap (with_front front) (sym read) ∙ so_far
+
+pub each_ends_or : {A B : Type 0} (f : A → Option B) (xs : List A) (e : ReadError) (front : List B) (i : ℕ) (d : A) (total : Option (List B)) → i < length xs → Fails e (f (get_or xs i d))
+    → with_front front (each f (drop i xs)) ≡ total → Fails e total
+unfolding each
+each_ends_or f xs errors.Memory front i d total lt e so_far = tt
+each_ends_or f xs errors.Malformed front i d total lt e so_far =
+    let read : each f (drop i xs) ≡ None = ap (each f) (drop_more xs i d lt) ∙ rw e refl in
+    sym so_far ∙ ap (with_front front) read

@@ -1,20 +1,19 @@
 -- What the indices of a pool name, as functions and as relations.
-use Rattle.std.proofs.Common.{◌≡◌, ℕ, true, ◌&&◌, List, Option, Some, None, refl, ap, subst, ◌∙◌}
+use Rattle.std.proofs.Common.{◌≡◌, ℕ, true, List, Some, refl, ap, subst, ◌∙◌}
 use Rattle.std.specs.List.{slice_get}
 use Rattle.std.specs.Str.{bytes_eq}
 use Rattle.std.proofs.lemmas.Slice.Eq.{bytes_eq-Decides}
-use Rattle.std.proofs.lemmas.Bool.Decides.{Decides-and}
 use Rattle.jv_form.specs.declared.outline.Entry.{Entry}
-use Rattle.jv_form.specs.declared.outline.Entry.TheVariants.{Utf8, Class, Methodref, NameAndType, Unused}
-use Rattle.jv_form.specs.Outlines.{IsUtf8At, IsClassAt, IsMethodrefAt}
+use Rattle.jv_form.specs.declared.outline.Entry.TheVariants.{Utf8, Class, Fieldref, Methodref, NameAndType, Unused}
+use Rattle.jv_form.specs.Outlines.{IsUtf8At, IsClassAt, IsFieldrefAt, IsMethodrefAt}
 use Rattle.jv_form.specs.Reading.{◌>>=◌}
-use Rattle.jv_form.specs.Classes.{text_of, class_name_of, method_of, pair_of, text_at, class_at, pair_at, named_at, Named}
-use Rattle.jv_form.specs.ClassesBodies.{is_named}
+use Rattle.jv_form.specs.Classes.{text_of, class_name_of, pair_of, text_at, class_at, pair_at, member_at, Named}
 use Rattle.jv_form.proofs.LayoutFields.{bind_some, some_is}
 
 text_entry : (e : Entry) (t : List ℕ) → text_of e ≡ Some t → e ≡ Utf8 t
 text_entry (Utf8 text) t e = ap Utf8 (some_is text t e)
 text_entry (Class name) t e = absurd cc
+text_entry (Fieldref class pair) t e = absurd cc
 text_entry (Methodref class pair) t e = absurd cc
 text_entry (NameAndType name desc) t e = absurd cc
 text_entry Unused t e = absurd cc
@@ -22,20 +21,15 @@ text_entry Unused t e = absurd cc
 class_entry : (e : Entry) (n : ℕ) → class_name_of e ≡ Some n → e ≡ Class n
 class_entry (Utf8 text) n e = absurd cc
 class_entry (Class name) n e = ap Class (some_is name n e)
+class_entry (Fieldref class pair) n e = absurd cc
 class_entry (Methodref class pair) n e = absurd cc
 class_entry (NameAndType name desc) n e = absurd cc
 class_entry Unused n e = absurd cc
 
-method_entry : (e : Entry) (x : ℕ × ℕ) → method_of e ≡ Some x → e ≡ Methodref x.0 x.1
-method_entry (Utf8 text) x e = absurd cc
-method_entry (Class name) x e = absurd cc
-method_entry (Methodref class pair) x e = ap (λ (y : ℕ × ℕ). Methodref y.0 y.1) (some_is (class, pair) x e)
-method_entry (NameAndType name desc) x e = absurd cc
-method_entry Unused x e = absurd cc
-
 pair_entry : (e : Entry) (x : ℕ × ℕ) → pair_of e ≡ Some x → e ≡ NameAndType x.0 x.1
 pair_entry (Utf8 text) x e = absurd cc
 pair_entry (Class name) x e = absurd cc
+pair_entry (Fieldref class pair) x e = absurd cc
 pair_entry (Methodref class pair) x e = absurd cc
 pair_entry (NameAndType name desc) x e = ap (λ (y : ℕ × ℕ). NameAndType y.0 y.1) (some_is (name, desc) x e)
 pair_entry Unused x e = absurd cc
@@ -63,53 +57,57 @@ pub class_again : (pool : List Entry) (i : ℕ) (t : List ℕ) → IsClassAt poo
 unfolding class_at
 class_again pool i t h = rw (h.1, text_again pool h.0 t h.2) refl
 
--- ---- a method
+-- ---- a member
 
-pub named_takes : (pool : List Entry) (i : ℕ) (n : Named) → named_at pool i ≡ Some n → IsMethodrefAt pool i n.class n.name n.desc
-unfolding named_at pair_at
-named_takes pool i n e =
-    let rest = λ (item : ℕ × ℕ). class_at pool item.0 >>= λ class. pair_at pool item.1 >>= λ pair. let x : Named = record { class = class; name = pair.0; desc = pair.1 } in Some x in
-    let a = bind_some (slice_get pool i >>= method_of) rest n e in
-    let b = bind_some (slice_get pool i) method_of a.0 a.1 in
-    let c = bind_some (class_at pool a.0.0) (λ class. pair_at pool a.0.1 >>= λ pair. let x : Named = record { class = class; name = pair.0; desc = pair.1 } in Some x) n a.2 in
-    let d = bind_some (pair_at pool a.0.1) (λ pair. let x : Named = record { class = c.0; name = pair.0; desc = pair.1 } in Some x) n c.2 in
-    let f = bind_some (slice_get pool a.0.1 >>= pair_of) (λ pair. text_at pool pair.0 >>= λ name. text_at pool pair.1 >>= λ desc. let x : List ℕ × List ℕ = (name, desc) in Some x) d.0 d.1 in
-    let g = bind_some (slice_get pool a.0.1) pair_of f.0 f.1 in
+-- the indices name this member
+pub record IsMemberAt (pool : List Entry) (class_index pair_index : ℕ) (n : Named) : Type 0 where
+  pub name_at : ℕ
+  pub desc_at : ℕ
+  pub pair : slice_get pool pair_index ≡ Some (NameAndType name_at desc_at)
+  pub class_is : IsClassAt pool class_index n.class
+  pub name_is : IsUtf8At pool name_at n.name
+  pub desc_is : IsUtf8At pool desc_at n.desc
+
+pub member_takes : (pool : List Entry) (class_index pair_index : ℕ) (n : Named) → member_at pool class_index pair_index ≡ Some n → IsMemberAt pool class_index pair_index n
+unfolding member_at pair_at
+member_takes pool class_index pair_index n e =
+    let c = bind_some (class_at pool class_index) (λ class. pair_at pool pair_index >>= λ pair. let x : Named = record { class = class; name = pair.0; desc = pair.1 } in Some x) n e in
+    let d = bind_some (pair_at pool pair_index) (λ pair. let x : Named = record { class = c.0; name = pair.0; desc = pair.1 } in Some x) n c.2 in
+    let f = bind_some (slice_get pool pair_index >>= pair_of) (λ pair. text_at pool pair.0 >>= λ name. text_at pool pair.1 >>= λ desc. let x : List ℕ × List ℕ = (name, desc) in Some x) d.0 d.1 in
+    let g = bind_some (slice_get pool pair_index) pair_of f.0 f.1 in
     let h = bind_some (text_at pool f.0.0) (λ name. text_at pool f.0.1 >>= λ desc. let x : List ℕ × List ℕ = (name, desc) in Some x) d.0 f.2 in
     let k = bind_some (text_at pool f.0.1) (λ desc. let x : List ℕ × List ℕ = (h.0, desc) in Some x) d.0 h.2 in
     let made : Named = record { class = c.0; name = h.0; desc = k.0 } in
     let texts : (h.0, k.0) ≡ d.0 = some_is (h.0, k.0) d.0 k.2 in
     let is : made ≡ n = ap (λ (p : List ℕ × List ℕ). let x : Named = record { class = c.0; name = p.0; desc = p.1 } in x) texts ∙ some_is (record { class = c.0; name = d.0.0; desc = d.0.1 }) n d.2 in
-    let whole : IsMethodrefAt pool i made.class made.name made.desc = record {
-      class_at = a.0.0;
-      pair_at = a.0.1;
+    let whole : IsMemberAt pool class_index pair_index made = record {
       name_at = f.0.0;
       desc_at = f.0.1;
-      item = b.1 ∙ ap (λ (x : Entry). Some x) (method_entry b.0 a.0 b.2);
       pair = g.1 ∙ ap (λ (x : Entry). Some x) (pair_entry g.0 f.0 g.2);
-      class_is = class_takes pool a.0.0 c.0 c.1;
+      class_is = class_takes pool class_index c.0 c.1;
       name_is = text_takes pool f.0.0 h.0 h.1;
       desc_is = text_takes pool f.0.1 k.0 k.1;
     } in
-    subst (λ (m : Named). IsMethodrefAt pool i m.class m.name m.desc) is whole
+    subst (IsMemberAt pool class_index pair_index) is whole
 
-pub named_again : (pool : List Entry) (i : ℕ) (class name desc : List ℕ) → IsMethodrefAt pool i class name desc
-    → named_at pool i ≡ Some (record { class = class; name = name; desc = desc })
-unfolding named_at pair_at
-named_again pool i class name desc h =
-    rw (h.item, class_again pool h.class_at class h.class_is, h.pair, text_again pool h.name_at name h.name_is, text_again pool h.desc_at desc h.desc_is) refl
+pub member_again : (pool : List Entry) (class_index pair_index : ℕ) (n : Named) → IsMemberAt pool class_index pair_index n → member_at pool class_index pair_index ≡ Some n
+unfolding member_at pair_at
+member_again pool class_index pair_index n h =
+    rw (class_again pool class_index n.class h.class_is, h.pair, text_again pool h.name_at n.name h.name_is, text_again pool h.desc_at n.desc h.desc_is) refl
 
--- ---- a test of what is named
+-- ---- a field or a method by its entry
 
-pub is_named_takes : (pool : List Entry) (i : ℕ) (class name desc : List ℕ) (o : Option Named) → named_at pool i ≡ o → is_named class name desc o ≡ true → IsMethodrefAt pool i class name desc
-is_named_takes pool i class name desc None found e = absurd cc
-is_named_takes pool i class name desc (Some n) found e =
-    let both = (Decides-and (bytes_eq n.class class && bytes_eq n.name name) (bytes_eq n.desc desc) (Decides-and (bytes_eq n.class class) (bytes_eq n.name name) (bytes_eq-Decides n.class class) (bytes_eq-Decides n.name name)) (bytes_eq-Decides n.desc desc)).0 e in
-    rw (← both.0.0, ← both.0.1, ← both.1) (named_takes pool i n found)
+pub fieldref_takes : (pool : List Entry) (i class_index pair_index : ℕ) (n : Named) → slice_get pool i ≡ Some (Fieldref class_index pair_index) → IsMemberAt pool class_index pair_index n → IsFieldrefAt pool i n.class n.name n.desc
+fieldref_takes pool i class_index pair_index n e h = record { class_at = class_index; pair_at = pair_index; name_at = h.name_at; desc_at = h.desc_at; item = e; pair = h.pair; class_is = h.class_is; name_is = h.name_is; desc_is = h.desc_is }
+
+pub methodref_takes : (pool : List Entry) (i class_index pair_index : ℕ) (n : Named) → slice_get pool i ≡ Some (Methodref class_index pair_index) → IsMemberAt pool class_index pair_index n → IsMethodrefAt pool i n.class n.name n.desc
+methodref_takes pool i class_index pair_index n e h = record { class_at = class_index; pair_at = pair_index; name_at = h.name_at; desc_at = h.desc_at; item = e; pair = h.pair; class_is = h.class_is; name_is = h.name_is; desc_is = h.desc_is }
+
+pub fieldref_member : (pool : List Entry) (i : ℕ) (n : Named) → (h : IsFieldrefAt pool i n.class n.name n.desc) → IsMemberAt pool h.class_at h.pair_at n
+fieldref_member pool i n h = record { name_at = h.name_at; desc_at = h.desc_at; pair = h.pair; class_is = h.class_is; name_is = h.name_is; desc_is = h.desc_is }
+
+pub methodref_member : (pool : List Entry) (i : ℕ) (n : Named) → (h : IsMethodrefAt pool i n.class n.name n.desc) → IsMemberAt pool h.class_at h.pair_at n
+methodref_member pool i n h = record { name_at = h.name_at; desc_at = h.desc_at; pair = h.pair; class_is = h.class_is; name_is = h.name_is; desc_is = h.desc_is }
 
 pub bytes_eq_itself : (text : List ℕ) → bytes_eq text text ≡ true
 bytes_eq_itself text = (bytes_eq-Decides text text).1 refl
-
-pub is_named_again : (pool : List Entry) (i : ℕ) (class name desc : List ℕ) → IsMethodrefAt pool i class name desc → is_named class name desc (named_at pool i) ≡ true
-is_named_again pool i class name desc h =
-    ap (is_named class name desc) (named_again pool i class name desc h) ∙ rw (bytes_eq_itself class, bytes_eq_itself name, bytes_eq_itself desc) refl

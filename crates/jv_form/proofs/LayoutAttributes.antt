@@ -116,6 +116,7 @@ unfolding is_code
 is_code-true None e = absurd cc
 is_code-true (Some (entry.Utf8 text)) e = ap (λ (t : List ℕ). Some (entry.Utf8 t)) ((bytes_eq-Decides text (codes "Code")).0 e)
 is_code-true (Some (entry.Class name)) e = absurd cc
+is_code-true (Some (entry.Fieldref class name_and_type)) e = absurd cc
 is_code-true (Some (entry.Methodref class name_and_type)) e = absurd cc
 is_code-true (Some (entry.NameAndType name desc)) e = absurd cc
 is_code-true (Some entry.Unused) e = absurd cc

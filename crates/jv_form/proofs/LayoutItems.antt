@@ -3,10 +3,10 @@ use Rattle.std.proofs.Common.{◌≡◌, ℕ, ◌^◌, ◌<◌, Bool, true, fals
 use Rattle.std.proofs.lemmas.Bool.{eqb-true, ne_eqb}
 use Rattle.jv_form.specs.declared.outline.Entry.{Entry}
 use Rattle.jv_form.specs.declared.outline.Entry.TheVariants as entry
-use Rattle.jv_form.specs.Layout.{u2, Item, Utf8, Class, Methodref, NameAndType, Other, other_width, item_text, IsItem, is_wide}
+use Rattle.jv_form.specs.Layout.{u2, Item, Utf8, Class, Fieldref, Methodref, NameAndType, Other, other_width, item_text, IsItem, is_wide}
 use Rattle.jv_form.specs.Outlines.{entry_of}
 use Rattle.jv_form.specs.Reading.{◌>>=◌, u2_at, bytes_at}
-use Rattle.jv_form.specs.LayoutReading.{text_at, pair_at, is_wide_tag, other_at, utf8_at, class_at, methodref_at, name_and_type_at, tagged_at, item_at}
+use Rattle.jv_form.specs.LayoutReading.{text_at, pair_at, is_wide_tag, other_at, utf8_at, class_at, fieldref_at, methodref_at, name_and_type_at, tagged_at, item_at}
 use Rattle.jv_form.proofs.LayoutFields.{IsBytes, IsBytes-rest, bind_some, given_as, Takes, Takes-then, u2_takes, u2_again, bytes_take, bytes_again}
 
 -- a step that gives a value goes on with it
@@ -89,6 +89,16 @@ class_takes bytes x fits e =
     given_as (λ (y : Entry × Bool × List ℕ). TakesItem (7 ∷ bytes) y) made x a.2
     (record { item = Class a.0.0; is_item = t.1; taken = Takes-tag 7 bytes (u2 a.0.0) a.0.1 t.0; entry_is = refl; wide_is = refl })
 
+-- of a field of a class
+fieldref_takes : (bytes : List ℕ) (x : Entry × Bool × List ℕ) → IsBytes bytes → fieldref_at bytes ≡ Some x → TakesItem (9 ∷ bytes) x
+unfolding fieldref_at
+fieldref_takes bytes x fits e =
+    let a = bind_some (pair_at bytes) (λ pair. Some (entry.Fieldref pair.0 pair.1, false, pair.2)) x e in
+    let t = pair_takes bytes a.0 fits a.1 in
+    let made : Entry × Bool × List ℕ = (entry.Fieldref a.0.0 a.0.1, false, a.0.2) in
+    given_as (λ (y : Entry × Bool × List ℕ). TakesItem (9 ∷ bytes) y) made x a.2
+    (record { item = Fieldref a.0.0 a.0.1; is_item = (t.1, t.2); taken = Takes-tag 9 bytes (u2 a.0.0 ++ u2 a.0.1) a.0.2 t.0; entry_is = refl; wide_is = refl })
+
 -- of a method of a class
 methodref_takes : (bytes : List ℕ) (x : Entry × Bool × List ℕ) → IsBytes bytes → methodref_at bytes ≡ Some x → TakesItem (10 ∷ bytes) x
 unfolding methodref_at
@@ -125,15 +135,18 @@ tagged_takes : (tag : ℕ) (bytes : List ℕ) (x : Entry × Bool × List ℕ) �
 unfolding tagged_at
 tagged_takes tag bytes x fits e =
     let At : ℕ → Type 0 = λ t. TakesItem (t ∷ bytes) x in
-    elim (chosen (eqb tag 1) (utf8_at bytes) (cond (eqb tag 7) (class_at bytes) (cond (eqb tag 10) (methodref_at bytes) (cond (eqb tag 12) (name_and_type_at bytes) (other_at tag bytes)))) (Some x) e) [
+    elim (chosen (eqb tag 1) (utf8_at bytes) (cond (eqb tag 7) (class_at bytes) (cond (eqb tag 9) (fieldref_at bytes) (cond (eqb tag 10) (methodref_at bytes) (cond (eqb tag 12) (name_and_type_at bytes) (other_at tag bytes))))) (Some x) e) [
       | inl h ↦ subst At (sym (eqb-true tag 1 h.0)) (utf8_takes bytes x fits h.1)
-      | inr h ↦ elim (chosen (eqb tag 7) (class_at bytes) (cond (eqb tag 10) (methodref_at bytes) (cond (eqb tag 12) (name_and_type_at bytes) (other_at tag bytes))) (Some x) h.1) [
-        | inl i ↦ subst At (sym (eqb-true tag 7 i.0)) (class_takes bytes x fits i.1)
-        | inr i ↦ elim (chosen (eqb tag 10) (methodref_at bytes) (cond (eqb tag 12) (name_and_type_at bytes) (other_at tag bytes)) (Some x) i.1) [
-          | inl j ↦ subst At (sym (eqb-true tag 10 j.0)) (methodref_takes bytes x fits j.1)
-          | inr j ↦ elim (chosen (eqb tag 12) (name_and_type_at bytes) (other_at tag bytes) (Some x) j.1) [
-            | inl k ↦ subst At (sym (eqb-true tag 12 k.0)) (name_and_type_takes bytes x fits k.1)
-            | inr k ↦ other_takes tag bytes x fits k.1
+      | inr h ↦ elim (chosen (eqb tag 7) (class_at bytes) (cond (eqb tag 9) (fieldref_at bytes) (cond (eqb tag 10) (methodref_at bytes) (cond (eqb tag 12) (name_and_type_at bytes) (other_at tag bytes)))) (Some x) h.1) [
+        | inl g ↦ subst At (sym (eqb-true tag 7 g.0)) (class_takes bytes x fits g.1)
+        | inr g ↦ elim (chosen (eqb tag 9) (fieldref_at bytes) (cond (eqb tag 10) (methodref_at bytes) (cond (eqb tag 12) (name_and_type_at bytes) (other_at tag bytes))) (Some x) g.1) [
+          | inl i ↦ subst At (sym (eqb-true tag 9 i.0)) (fieldref_takes bytes x fits i.1)
+          | inr i ↦ elim (chosen (eqb tag 10) (methodref_at bytes) (cond (eqb tag 12) (name_and_type_at bytes) (other_at tag bytes)) (Some x) i.1) [
+            | inl j ↦ subst At (sym (eqb-true tag 10 j.0)) (methodref_takes bytes x fits j.1)
+            | inr j ↦ elim (chosen (eqb tag 12) (name_and_type_at bytes) (other_at tag bytes) (Some x) j.1) [
+              | inl k ↦ subst At (sym (eqb-true tag 12 k.0)) (name_and_type_takes bytes x fits k.1)
+              | inr k ↦ other_takes tag bytes x fits k.1
+            ]
           ]
         ]
       ]
@@ -153,7 +166,7 @@ not_kept tag kept width h none = ne_eqb tag kept (λ e. let both : None ≡ Some
 tagged_other : (tag width : ℕ) (bytes : List ℕ) → other_width tag ≡ Some width → tagged_at tag bytes ≡ other_at tag bytes
 unfolding tagged_at
 tagged_other tag width bytes h =
-    rw (not_kept tag 1 width h refl, not_kept tag 7 width h refl, not_kept tag 10 width h refl, not_kept tag 12 width h refl) refl
+    rw (not_kept tag 1 width h refl, not_kept tag 7 width h refl, not_kept tag 9 width h refl, not_kept tag 10 width h refl, not_kept tag 12 width h refl) refl
 
 -- an item that is not kept is read again, whatever follows
 other_again : (tag : ℕ) (content rest : List ℕ) → other_width tag ≡ Some (length content) → other_at tag (content ++ rest) ≡ Some (entry.Unused, is_wide_tag tag, rest)
@@ -164,9 +177,10 @@ other_again tag content rest h =
 
 -- an item is read again, whatever follows
 pub item_again : (item : Item) (rest : List ℕ) → IsItem item → item_at (item_text item ++ rest) ≡ Some (entry_of item, is_wide item, rest)
-unfolding item_at tagged_at utf8_at class_at methodref_at name_and_type_at
+unfolding item_at tagged_at utf8_at class_at fieldref_at methodref_at name_and_type_at
 item_again (Utf8 text) rest h = bind_is (text_at ((u2 (length text) ++ text) ++ rest)) (λ x. Some (entry.Utf8 x.0, false, x.1)) (text, rest) (text_again text rest h)
 item_again (Class name) rest h = bind_is (u2_at (u2 name ++ rest)) (λ x. Some (entry.Class x.0, false, x.1)) (name, rest) (u2_again name rest h)
+item_again (Fieldref class name_and_type) rest h = bind_is (pair_at ((u2 class ++ u2 name_and_type) ++ rest)) (λ x. Some (entry.Fieldref x.0 x.1, false, x.2)) (class, name_and_type, rest) (pair_again class name_and_type rest h.0 h.1)
 item_again (Methodref class name_and_type) rest h = bind_is (pair_at ((u2 class ++ u2 name_and_type) ++ rest)) (λ x. Some (entry.Methodref x.0 x.1, false, x.2)) (class, name_and_type, rest) (pair_again class name_and_type rest h.0 h.1)
 item_again (NameAndType name desc) rest h = bind_is (pair_at ((u2 name ++ u2 desc) ++ rest)) (λ x. Some (entry.NameAndType x.0 x.1, false, x.2)) (name, desc, rest) (pair_again name desc rest h.0 h.1)
 item_again (Other tag content) rest h = tagged_other tag (length content) (content ++ rest) h ∙ other_again tag content rest h

@@ -6,8 +6,9 @@ use Rattle.jv_form.specs.declared.read_error.ReadError.{ReadError}
 use Rattle.jv_form.specs.declared.read_error.ReadError.TheVariants as errors
 use Rattle.jv_form.specs.Reading.{◌>>=◌, Fails}
 use Rattle.jv_form.specs.declared.outline.Entry.TheVariants.{Unused}
+use Rattle.jv_form.specs.declared.outline.RawField.{RawField}
 use Rattle.jv_form.specs.declared.outline.RawMethod.{RawMethod}
-use Rattle.jv_form.specs.LayoutReading.{slot_at, entries_at, indexed_at, attribute_at, behind_at, found_at, code_at, method_at, methods_at}
+use Rattle.jv_form.specs.LayoutReading.{slot_at, entries_at, indexed_at, attribute_at, behind_at, found_at, code_at, field_at, fields_at, method_at, methods_at}
 
 -- what was read before, and what is still read
 abbrev pub with_front : {A : Type 0} → List A → Option (List A × List ℕ) → Option (List A × List ℕ)
@@ -134,6 +135,37 @@ unfolding code_at
 code_is_done pool count i found bytes total le so_far =
     let k : count - i ≡ 0 = omega arith in
     let one : code_at pool (count - i) found bytes ≡ Some (found, bytes) = rw k refl in
+    sym so_far ∙ one
+
+-- ---- fields
+
+-- one field more was read
+pub field_goes_on : (front : List RawField) (count i : ℕ) (bytes after : List ℕ) (m : RawField) (total : Option (List RawField × List ℕ)) → i < count
+    → field_at bytes ≡ Some (m, after) → with_front front (fields_at (count - i) bytes) ≡ total
+    → with_front (front ++ m ∷ []) (fields_at (count - (i + 1)) after) ≡ total
+unfolding fields_at
+field_goes_on front count i bytes after m total lt h so_far =
+    let k : count - i ≡ suc (count - (i + 1)) = omega arith in
+    let one : with_front front (fields_at (count - i) bytes) ≡ with_front (front ++ m ∷ []) (fields_at (count - (i + 1)) after) = rw (k, h) (regroup front m (fields_at (count - (i + 1)) after)) in
+    sym one ∙ so_far
+
+-- a field that is not read ends it all
+pub field_ends : (error : ReadError) (front : List RawField) (count i : ℕ) (bytes : List ℕ) (total : Option (List RawField × List ℕ)) → i < count
+    → Fails error (field_at bytes) → with_front front (fields_at (count - i) bytes) ≡ total → Fails error total
+unfolding fields_at
+field_ends errors.Memory front count i bytes total lt h so_far = tt
+field_ends errors.Malformed front count i bytes total lt h so_far =
+    let k : count - i ≡ suc (count - (i + 1)) = omega arith in
+    let one : with_front front (fields_at (count - i) bytes) ≡ None = rw (k, h) refl in
+    sym so_far ∙ one
+
+-- all fields were read
+pub fields_are_done : (front : List RawField) (count i : ℕ) (bytes : List ℕ) (total : Option (List RawField × List ℕ)) → count ≤ i
+    → with_front front (fields_at (count - i) bytes) ≡ total → total ≡ Some (front, bytes)
+unfolding fields_at
+fields_are_done front count i bytes total le so_far =
+    let k : count - i ≡ 0 = omega arith in
+    let one : with_front front (fields_at (count - i) bytes) ≡ Some (front, bytes) = rw k (ap (λ (xs : List RawField). Some (xs, bytes)) (append-nil front)) in
     sym so_far ∙ one
 
 -- ---- methods

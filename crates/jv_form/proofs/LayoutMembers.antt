@@ -16,9 +16,13 @@ use Rattle.jv_form.proofs.LayoutAttributes.{one_code_takes, one_code_again}
 abbrev raw_of : ℕ → ℕ → ℕ → List ℕ → RawMethod
 raw_of access name desc code = record { access = record { 0 = access }; name = name; desc = desc; code = code }
 
--- a method of the file, by its parts
-abbrev member_of : ℕ → ℕ → ℕ → List Attribute → Member
+-- a member of the file, by its parts
+abbrev pub member_of : ℕ → ℕ → ℕ → List Attribute → Member
 member_of access name desc attributes = record { access = access; name = name; desc = desc; attributes = attributes }
+
+-- a count, and as many members
+abbrev pub members_text : List Member → List ℕ
+members_text members = u2 (length members) ++ flat_map member_text members
 
 -- ---- one method
 
@@ -104,10 +108,6 @@ methods_again pool (m ∷ members) (raw ∷ raws) rest h kept =
     ∙ bind_is (methods_at pool (length members) after) (λ others. Some (raw ∷ others.0, others.1)) (raws, rest) (methods_again pool members raws rest h.1 kept.1)
 
 -- ---- a count and as many methods
-
--- a count, and as many methods
-abbrev pub members_text : List Member → List ℕ
-members_text members = u2 (length members) ++ flat_map member_text members
 
 -- a count and as many methods stand at the front, and this is kept of them
 pub record TakesMethods (pool : List Entry) (bytes : List ℕ) (x : List RawMethod × List ℕ) : Type 0 where

@@ -1,5 +1,5 @@
 -- How a class file is laid out (JVMS 4.1 to 4.7): each structure as a value that has all of it, and the
--- one text of each value. Only files with neither interfaces nor fields have one here.
+-- one text of each value. Only files without interfaces have one here.
 use Rattle.std.specs.Prelude.{◌≡◌, ℕ, ◌+◌, ◌*◌, ◌^◌, ◌<◌, List, [], ◌∷◌, ◌++◌, length, Bool, false, ◌||◌, ◌==◌, Option, Some, None, if◌then◌else◌}
 use Rattle.std.specs.List.{flat_map, AllByRecursion}
 use Rattle.std.specs.Int.{w16, w32, to_be_bytes}
@@ -15,6 +15,7 @@ u4 n = to_be_bytes w32 n
 pub data Item : Type 0 where
   Utf8 : (text : List ℕ) → Item
   Class : (name : ℕ) → Item
+  Fieldref : (class : ℕ) → (name_and_type : ℕ) → Item
   Methodref : (class : ℕ) → (name_and_type : ℕ) → Item
   NameAndType : (name : ℕ) → (desc : ℕ) → Item
   Other : (tag : ℕ) → (content : List ℕ) → Item
@@ -25,12 +26,13 @@ other_width tag =
     if tag == 3 || tag == 4 then Some 4 else
     (if tag == 5 || tag == 6 then Some 8 else
     (if tag == 8 || tag == 16 then Some 2 else
-    (if tag == 9 || tag == 11 || tag == 18 then Some 4 else
+    (if tag == 11 || tag == 18 then Some 4 else
     (if tag == 15 then Some 3 else None))))
 
 abbrev pub item_text : Item → List ℕ
 item_text (Utf8 text) = 1 ∷ u2 (length text) ++ text
 item_text (Class name) = 7 ∷ u2 name
+item_text (Fieldref class name_and_type) = 9 ∷ u2 class ++ u2 name_and_type
 item_text (Methodref class name_and_type) = 10 ∷ u2 class ++ u2 name_and_type
 item_text (NameAndType name desc) = 12 ∷ u2 name ++ u2 desc
 item_text (Other tag content) = tag ∷ content
@@ -39,6 +41,7 @@ item_text (Other tag content) = tag ∷ content
 abbrev pub IsItem : Item → Type 0
 IsItem (Utf8 text) = length text < 2 ^ 16
 IsItem (Class name) = name < 2 ^ 16
+IsItem (Fieldref class name_and_type) = (class < 2 ^ 16) × (name_and_type < 2 ^ 16)
 IsItem (Methodref class name_and_type) = (class < 2 ^ 16) × (name_and_type < 2 ^ 16)
 IsItem (NameAndType name desc) = (name < 2 ^ 16) × (desc < 2 ^ 16)
 IsItem (Other tag content) = other_width tag ≡ Some (length content)
@@ -47,6 +50,7 @@ IsItem (Other tag content) = other_width tag ≡ Some (length content)
 abbrev pub is_wide : Item → Bool
 is_wide (Utf8 text) = false
 is_wide (Class name) = false
+is_wide (Fieldref class name_and_type) = false
 is_wide (Methodref class name_and_type) = false
 is_wide (NameAndType name desc) = false
 is_wide (Other tag content) = tag == 5 || tag == 6
@@ -74,7 +78,7 @@ attributes_text attributes = u2 (length attributes) ++ flat_map attribute_text a
 abbrev pub AreAttributes : List Attribute → Type 0
 AreAttributes attributes = (length attributes < 2 ^ 16) × AllByRecursion IsAttribute attributes
 
--- a method (JVMS 4.6)
+-- a field or a method (JVMS 4.5, 4.6)
 pub record Member : Type 0 where
   pub access : ℕ
   pub name : ℕ
@@ -98,14 +102,16 @@ pub record File : Type 0 where
   pub access : ℕ
   pub this_class : ℕ
   pub super_class : ℕ
+  pub fields : List Member
   pub methods : List Member
   pub attributes : List Attribute
 
--- magic, versions, the pool, the class itself, no interfaces, no fields, the methods, the attributes, and no byte more
+-- magic, versions, the pool, the class itself, no interfaces, the fields, the methods, the attributes, and no byte more
 abbrev pub file_text : File → List ℕ
 file_text f = 0xCA ∷ 0xFE ∷ 0xBA ∷ 0xBE ∷ u2 f.minor ++ u2 f.major
     ++ u2 (1 + index_count f.items) ++ flat_map item_text f.items
-    ++ u2 f.access ++ u2 f.this_class ++ u2 f.super_class ++ u2 0 ++ u2 0
+    ++ u2 f.access ++ u2 f.this_class ++ u2 f.super_class ++ u2 0
+    ++ u2 (length f.fields) ++ flat_map member_text f.fields
     ++ u2 (length f.methods) ++ flat_map member_text f.methods ++ attributes_text f.attributes
 
 pub record IsFile (f : File) : Type 0 where
@@ -116,6 +122,8 @@ pub record IsFile (f : File) : Type 0 where
   pub access : f.access < 2 ^ 16
   pub this_class : f.this_class < 2 ^ 16
   pub super_class : f.super_class < 2 ^ 16
+  pub field_count : length f.fields < 2 ^ 16
+  pub fields : AllByRecursion IsMember f.fields
   pub method_count : length f.methods < 2 ^ 16
   pub methods : AllByRecursion IsMember f.methods
   pub attributes : AreAttributes f.attributes

@@ -5,6 +5,7 @@ use Rattle.std.specs.List.{slice_get}
 use Rattle.std.specs.Str.{bytes_eq}
 use Rattle.jv_form.specs.declared.outline.Entry.{Entry}
 use Rattle.jv_form.specs.declared.outline.Entry.TheVariants as entry
+use Rattle.jv_form.specs.declared.outline.RawField.{RawField}
 use Rattle.jv_form.specs.declared.outline.RawMethod.{RawMethod}
 use Rattle.jv_form.specs.declared.outline.Outline.{Outline}
 use Rattle.jv_form.specs.Layout.{other_width}
@@ -48,6 +49,12 @@ class_at bytes = do
   name ← u2_at bytes
   Some (entry.Class name.0, false, name.1)
 
+-- a field of a class behind its tag
+unfoldable pub fieldref_at : List ℕ → Option (Entry × Bool × List ℕ)
+fieldref_at bytes = do
+  pair ← pair_at bytes
+  Some (entry.Fieldref pair.0 pair.1, false, pair.2)
+
 -- a method of a class behind its tag
 unfoldable pub methodref_at : List ℕ → Option (Entry × Bool × List ℕ)
 methodref_at bytes = do
@@ -65,8 +72,9 @@ unfoldable pub tagged_at : ℕ → List ℕ → Option (Entry × Bool × List �
 tagged_at tag bytes =
     if tag == 1 then utf8_at bytes else
     (if tag == 7 then class_at bytes else
+    (if tag == 9 then fieldref_at bytes else
     (if tag == 10 then methodref_at bytes else
-    (if tag == 12 then name_and_type_at bytes else other_at tag bytes)))
+    (if tag == 12 then name_and_type_at bytes else other_at tag bytes))))
 
 -- an item
 unfoldable pub item_at : List ℕ → Option (Entry × Bool × List ℕ)
@@ -127,6 +135,7 @@ unfoldable pub is_code : Option Entry → Bool
 is_code None = false
 is_code (Some (entry.Utf8 text)) = bytes_eq text (codes "Code")
 is_code (Some (entry.Class name)) = false
+is_code (Some (entry.Fieldref class name_and_type)) = false
 is_code (Some (entry.Methodref class name_and_type)) = false
 is_code (Some (entry.NameAndType name desc)) = false
 is_code (Some entry.Unused) = false
@@ -151,6 +160,30 @@ one_code_at pool bytes = do
   found ← code_at pool count.0 None count.1
   content ← found.0
   Some (content, found.1)
+
+-- ---- fields
+
+-- a field, whose attributes are passed over
+unfoldable pub field_at : List ℕ → Option (RawField × List ℕ)
+field_at bytes = do
+  access ← u2_at bytes
+  names ← pair_at access.1
+  rest ← passed_at names.2
+  Some (record { access = record { 0 = access.0 }; name = names.0; desc = names.1 }, rest)
+
+-- as many fields
+unfoldable pub fields_at : ℕ → List ℕ → Option (List RawField × List ℕ)
+fields_at zero bytes = Some ([], bytes)
+fields_at (suc n) bytes = do
+  first ← field_at bytes
+  others ← fields_at n first.1
+  Some (first.0 ∷ others.0, others.1)
+
+-- a count, and as many fields
+unfoldable pub counted_fields_at : List ℕ → Option (List RawField × List ℕ)
+counted_fields_at bytes = do
+  count ← u2_at bytes
+  fields_at count.0 count.1
 
 -- ---- methods
 
@@ -185,13 +218,13 @@ header_at bytes = do
   versions ← (if magic.0 == 0xCAFEBABE then pair_at magic.1 else None)
   Some (versions.1, versions.2)
 
--- access flags, this class and the superclass, no interfaces and no fields
+-- access flags, this class and the superclass, and no interfaces
 unfoldable pub names_at : List ℕ → Option (ℕ × ℕ × List ℕ)
 names_at bytes = do
   access ← u2_at bytes
   names ← pair_at access.1
-  counts ← pair_at names.2
-  if counts.0 == 0 then (if counts.1 == 0 then Some (names.0, names.1, counts.2) else None) else None
+  count ← u2_at names.2
+  if count.0 == 0 then Some (names.0, names.1, count.1) else None
 
 -- all of the bytes
 unfoldable pub outline_at : List ℕ → Option Outline
@@ -199,6 +232,7 @@ outline_at bytes = do
   header ← header_at bytes
   pool ← pool_at header.1
   names ← names_at pool.1
-  methods ← counted_methods_at pool.0 names.2
+  fields ← counted_fields_at names.2
+  methods ← counted_methods_at pool.0 fields.1
   rest ← passed_at methods.1
-  if length rest == 0 then Some (record { major = header.0; pool = pool.0; this_class = names.0; super_class = names.1; methods = methods.0 }) else None
+  if length rest == 0 then Some (record { major = header.0; pool = pool.0; this_class = names.0; super_class = names.1; fields = fields.0; methods = methods.0 }) else None

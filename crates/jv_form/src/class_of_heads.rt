@@ -2,7 +2,7 @@ ghost use Rattle.std.specs.Prelude.{◌≡◌};
 ghost use Rattle.jv_form.specs.Reading.{Gives};
 ghost use Rattle.jv_form.specs.ClassesHeads.{heading_of, headings_of, heading_at, headings_at};
 
-use crate::class_of_kinds::{is_known, is_visible};
+use crate::class_of_flags::{is_allowed, is_visible};
 use crate::class_of_pool::text_at;
 use crate::outline::{Entry, RawMethod};
 use crate::read_error::ReadError;
@@ -18,7 +18,7 @@ pub struct Head<'a> {
     pub code: &'a [u8],
 }
 
-/// A method's texts, where they are visible and the method is of a known kind.
+/// A method's texts, where they are visible and the method is allowed.
 #[tactic(auto, unfolding(crate::specs::ClassesHeads::heading_at))]
 fn read_head<'a>(pool: &'a [Entry], raw: &'a RawMethod) -> Result<Head<'a>, ReadError>
     ensures { Gives heading_of result (heading_at pool.now raw.now) }
@@ -31,7 +31,7 @@ fn read_head<'a>(pool: &'a [Entry], raw: &'a RawMethod) -> Result<Head<'a>, Read
     };
     if is_visible(name.as_slice())
         && is_visible(desc.as_slice())
-        && is_known(raw.access, name.as_slice(), desc.as_slice())
+        && is_allowed(raw.access, name.as_slice())
     {
         Ok(Head {
             access: raw.access,

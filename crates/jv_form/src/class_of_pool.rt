@@ -1,13 +1,13 @@
 ghost use Rattle.std.specs.Prelude.{◌≡◌, option_map};
 ghost use Rattle.std.specs.Option.{option_copied};
-ghost use Rattle.jv_form.specs.Classes.{text_at, class_at, pair_at, named_at, pair_view, named_of};
+ghost use Rattle.jv_form.specs.Classes.{text_at, class_at, pair_at, member_at, pair_view, named_of};
 
 use crate::outline::Entry;
 use jv_types::Name;
 
-/// A method that an index of the pool names.
+/// A member that an index of the pool names.
 #[derive(Clone, Copy)]
-pub struct Target<'a> {
+pub struct Member<'a> {
     pub class: &'a Name,
     pub name: &'a Name,
     pub desc: &'a Name,
@@ -50,17 +50,12 @@ fn pair_at<'a>(pool: &'a [Entry], index: u16) -> Option<(&'a Name, &'a Name)>
     }
 }
 
-/// The method at an index (JVMS 4.4.2).
-#[tactic(auto, unfolding(crate::specs::Classes::named_at))]
-pub fn target_at<'a>(pool: &'a [Entry], index: u16) -> Option<Target<'a>>
-    ensures { option_map named_of result ≡ named_at pool.now index }
+/// The member of the class at one index with the name and descriptor at another (JVMS 4.4.2).
+#[tactic(auto, unfolding(crate::specs::Classes::member_at))]
+pub fn member_at<'a>(pool: &'a [Entry], class: u16, pair: u16) -> Option<Member<'a>>
+    ensures { option_map named_of result ≡ member_at pool.now class pair }
 {
-    match pool.get(usize::from(index)) {
-        Some(Entry::Methodref(class, pair)) => {
-            let class = class_at(pool, *class)?;
-            let (name, desc) = pair_at(pool, *pair)?;
-            Some(Target { class, name, desc })
-        }
-        _ => None,
-    }
+    let class = class_at(pool, class)?;
+    let (name, desc) = pair_at(pool, pair)?;
+    Some(Member { class, name, desc })
 }

@@ -1,116 +1,97 @@
-ghost use Rattle.std.specs.Prelude.{◌≡◌};
+ghost use Rattle.std.specs.Prelude.{◌≡◌, ◌<◌, ◌^◌, length};
 ghost use Rattle.jv_form.specs.Reading.{Gives};
-ghost use Rattle.jv_form.specs.ClassesBodies.{callee_in, step_at, is_last, placed_from, constructor_index, is_object_init, constructor_code};
+ghost use Rattle.jv_form.specs.ClassesBodies.{target_in, named_at, operands_at, step_at, placed_from};
 
-use crate::class_of_pool::target_at;
 use crate::number::{read_u1, read_u2};
-use crate::outline::Entry;
+use crate::object_class::{Instruction, Placed};
+use crate::opcode::{Format, format_of, load, named, store};
 use crate::read_error::ReadError;
-use crate::static_class::{Instruction, Placed};
+use crate::target::Target;
 use std::alloc::Global;
 
-/// One instruction that isn't the last, and what follows it (JVMS 6.5). The table has, at each index of
-/// the pool, the place of the method that it names.
-#[tactic(auto, unfolding(crate::specs::ClassesBodies::step_at))]
-fn read_step<'a>(
-    callees: &[Option<usize>],
+/// The instruction of an opcode that names what the next index names, and what follows it. The table
+/// has what each index of the pool names.
+#[tactic(auto, unfolding(crate::specs::ClassesBodies::named_at))]
+fn read_named<'a>(
+    targets: &[Option<Target>],
+    op: u8,
     bytes: &'a [u8],
 ) -> Result<(Instruction, &'a [u8]), ReadError>
-    ensures { Gives (λ x. (x.0, x.1.now)) result (step_at (callee_in callees.now) bytes.now) }
+    ensures { Gives (λ x. (x.0, x.1.now)) result (named_at (target_in targets.now) op bytes.now) }
+{
+    let (index, rest) = read_u2(bytes)?;
+    let Some(Some(target)) = targets.get(usize::from(index)) else {
+        return Err(ReadError::Malformed);
+    };
+    match named(op, *target) {
+        None => Err(ReadError::Malformed),
+        Some(instruction) => Ok((instruction, rest)),
+    }
+}
+
+/// The instruction of an opcode, by what follows it, and what follows that (JVMS 6.5).
+#[tactic(auto, unfolding(crate::specs::ClassesBodies::operands_at))]
+fn read_operands<'a>(
+    targets: &[Option<Target>],
+    op: u8,
+    format: Format,
+    bytes: &'a [u8],
+) -> Result<(Instruction, &'a [u8]), ReadError>
+    ensures { Gives (λ x. (x.0, x.1.now)) result (operands_at (target_in targets.now) op format bytes.now) }
+{
+    match format {
+        Format::Alone(instruction) => Ok((instruction, bytes)),
+        Format::Byte => {
+            let (_value, rest) = read_u1(bytes)?;
+            Ok((Instruction::PushWord, rest))
+        }
+        Format::Short => {
+            let (_value, rest) = read_u2(bytes)?;
+            Ok((Instruction::PushWord, rest))
+        }
+        Format::LoadAt(kind) => {
+            let (local, rest) = read_u1(bytes)?;
+            Ok((load(kind, local), rest))
+        }
+        Format::StoreAt(kind) => {
+            let (local, rest) = read_u1(bytes)?;
+            Ok((store(kind, local), rest))
+        }
+        Format::Named => read_named(targets, op, bytes),
+    }
+}
+
+/// One instruction, and what follows it.
+#[tactic(auto, unfolding(crate::specs::ClassesBodies::step_at))]
+fn read_step<'a>(
+    targets: &[Option<Target>],
+    bytes: &'a [u8],
+) -> Result<(Instruction, &'a [u8]), ReadError>
+    ensures { Gives (λ x. (x.0, x.1.now)) result (step_at (target_in targets.now) bytes.now) }
 {
     let (op, rest) = read_u1(bytes)?;
-    match op {
-        2..=8 | 26..=29 | 87 => Ok((Instruction::Plain, rest)),
-        184 => {
-            let (index, rest) = read_u2(rest)?;
-            match callees.get(usize::from(index)) {
-                Some(Some(place)) => Ok((Instruction::Call(*place), rest)),
-                _ => Err(ReadError::Malformed),
-            }
-        }
-        _ => Err(ReadError::Malformed),
+    match format_of(op) {
+        None => Err(ReadError::Malformed),
+        Some(format) => read_operands(targets, op, format, rest),
     }
 }
 
-/// Whether the bytes are the last instruction and no byte more.
-fn is_last(bytes: &[u8]) -> bool
-    ensures { result ≡ is_last bytes.now }
-{
-    match bytes.split_first() {
-        None => false,
-        Some((op, rest)) => rest.is_empty() && (*op == 172 || *op == 177),
-    }
-}
-
-/// The instructions of a static method's code, of which the last alone is a return (JVMS 4.9.1).
+/// The instructions of a code.
 pub fn read_instructions(
     alloc: Global,
-    callees: &[Option<usize>],
+    targets: &[Option<Target>],
     bytes: &[u8],
 ) -> Result<Vec<Placed>, ReadError>
-    ensures { Gives (λ v. v.items) result (placed_from (callee_in callees.now) 0 bytes.now) }
+    requires { length bytes.now < 2 ^ 16 }
+    ensures { Gives (λ v. v.items) result (placed_from (target_in targets.now) 0 bytes.now) }
 {
-    let mut placed = Vec::new(alloc);
+    let mut placed = Vec::with_capacity(alloc, bytes.len())?;
     let mut rest = bytes;
-    while rest.len() > 1 {
-        let pc = bytes.len() - rest.len();
-        let (instruction, after) = read_step(callees, rest)?;
+    while !rest.is_empty() {
+        let pc = (bytes.len() - rest.len()) as u16;
+        let (instruction, after) = read_step(targets, rest)?;
         placed.push(Placed { pc, instruction })?;
         rest = after;
     }
-    if !is_last(rest) {
-        return Err(ReadError::Malformed);
-    }
-    placed.push(Placed {
-        pc: bytes.len() - rest.len(),
-        instruction: Instruction::Return,
-    })?;
     Ok(placed)
-}
-
-/// The index of the method that a constructor's code calls, where it is of the one form: `aload_0`,
-/// `invokespecial` and `return`.
-#[tactic(auto, unfolding(crate::specs::ClassesBodies::constructor_index))]
-fn read_constructor_index(bytes: &[u8]) -> Result<u16, ReadError>
-    ensures { Gives (λ x. x) result (constructor_index bytes.now) }
-{
-    let (load, rest) = read_u1(bytes)?;
-    let (call, rest) = read_u1(rest)?;
-    let (index, rest) = read_u2(rest)?;
-    let (last, rest) = read_u1(rest)?;
-    if load == 0x2A && call == 0xB7 && last == 0xB1 && rest.is_empty() {
-        Ok(index)
-    } else {
-        Err(ReadError::Malformed)
-    }
-}
-
-/// Whether an index names the constructor of `java/lang/Object`.
-fn is_object_init(pool: &[Entry], index: u16) -> bool
-    ensures { result ≡ is_object_init pool.now index }
-{
-    match target_at(pool, index) {
-        None => false,
-        Some(target) => {
-            target.class.as_slice() == b"java/lang/Object".as_slice()
-                && target.name.as_slice() == b"<init>".as_slice()
-                && target.desc.as_slice() == b"()V".as_slice()
-        }
-    }
-}
-
-/// Nothing, where the code is that of a constructor which only calls that of `java/lang/Object`.
-#[tactic(auto, unfolding(crate::specs::ClassesBodies::constructor_code))]
-pub fn read_constructor(
-    alloc: Global,
-    pool: &[Entry],
-    bytes: &[u8],
-) -> Result<Vec<Placed>, ReadError>
-    ensures { Gives (λ v. v.items) result (constructor_code pool.now bytes.now) }
-{
-    let index = read_constructor_index(bytes)?;
-    if !is_object_init(pool, index) {
-        return Err(ReadError::Malformed);
-    }
-    Ok(Vec::new(alloc))
 }

@@ -5,6 +5,7 @@ ghost use Rattle.jv_form.specs.Outlines.{IsOutline};
 ghost use Rattle.jv_form.specs.Reading.{Gives};
 
 use crate::attributes::pass_counted;
+use crate::fields::read_counted_fields;
 use crate::methods::read_counted_methods;
 use crate::number::{read_u2, read_u4};
 use crate::outline::Outline;
@@ -28,16 +29,16 @@ fn read_header(bytes: &[u8]) -> Result<(u16, &[u8]), ReadError>
     Ok((major, rest))
 }
 
-/// Access flags, this class, the superclass, and that there are neither interfaces nor fields: the
-/// indices of the two classes, and the bytes after them.
+/// Access flags, this class, the superclass, and that there are no interfaces: the indices of the two
+/// classes, and the bytes after them.
 #[tactic(auto, unfolding(crate::specs::LayoutReading::names_at))]
 fn read_names(bytes: &[u8]) -> Result<(u16, u16, &[u8]), ReadError>
     ensures { Gives (λ x. (x.0, x.1, x.2.now)) result (names_at bytes.now) }
 {
     let (_access, rest) = read_u2(bytes)?;
     let (this_class, super_class, rest) = read_pair(rest)?;
-    let (interface_count, field_count, rest) = read_pair(rest)?;
-    if interface_count != 0 || field_count != 0 {
+    let (interface_count, rest) = read_u2(rest)?;
+    if interface_count != 0 {
         return Err(ReadError::Malformed);
     }
     Ok((this_class, super_class, rest))
@@ -51,6 +52,7 @@ fn read_all(alloc: Global, bytes: &[u8]) -> Result<Outline, ReadError>
     let (major, rest) = read_header(bytes)?;
     let (pool, rest) = read_pool(alloc, rest)?;
     let (this_class, super_class, rest) = read_names(rest)?;
+    let (fields, rest) = read_counted_fields(alloc, rest)?;
     let (methods, rest) = read_counted_methods(alloc, pool.as_slice(), rest)?;
     let rest = pass_counted(rest)?;
     if !rest.is_empty() {
@@ -61,12 +63,13 @@ fn read_all(alloc: Global, bytes: &[u8]) -> Result<Outline, ReadError>
         pool,
         this_class,
         super_class,
+        fields,
         methods,
     })
 }
 
-/// Reads the layout of a class file whose methods have one `Code` each and which has neither interfaces
-/// nor fields (JVMS 4.1). Bytes that aren't such a file give `Malformed`, or `Memory` where memory ran
+/// Reads the layout of a class file whose methods have one `Code` each and which has no interfaces
+/// (JVMS 4.1). Bytes that aren't such a file give `Malformed`, or `Memory` where memory ran
 /// out before that was seen. What isn't kept is passed over by its length and takes no memory.
 pub fn read_outline(alloc: Global, bytes: &[u8]) -> Result<Outline, ReadError>
     ensures found { IfOk result (IsOutline bytes.now) }

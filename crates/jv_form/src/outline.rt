@@ -7,12 +7,22 @@ pub enum Entry {
     Utf8(Name),
     /// A class, by the index of its name.
     Class(u16),
+    /// A field of a class, by the indices of the class and of the name and descriptor.
+    Fieldref(u16, u16),
     /// A method of a class, by the indices of the class and of the name and descriptor.
     Methodref(u16, u16),
     /// The indices of a name and a descriptor.
     NameAndType(u16, u16),
     /// An index at which nothing stands that this form looks at.
     Unused,
+}
+
+/// A field as the file has it: the indices of its name and descriptor (JVMS 4.5).
+#[derive(Debug, PartialEq, Eq, PartialOrd, Ord, Drop)]
+pub struct RawField {
+    pub access: Access,
+    pub name: u16,
+    pub desc: u16,
 }
 
 /// A method as the file has it: the indices of its name and descriptor, and the content of its one
@@ -25,7 +35,7 @@ pub struct RawMethod {
     pub code: Seq<u8>,
 }
 
-/// A class file with neither interfaces nor fields, as far as the reader keeps it (JVMS 4.1). The pool
+/// A class file without interfaces, as far as the reader keeps it (JVMS 4.1). The pool
 /// is kept by index, so that an unused entry stands at 0.
 #[derive(Debug, PartialEq, Eq, PartialOrd, Ord, Drop)]
 pub struct Outline {
@@ -33,5 +43,6 @@ pub struct Outline {
     pub pool: Seq<Entry>,
     pub this_class: u16,
     pub super_class: u16,
+    pub fields: Seq<RawField>,
     pub methods: Seq<RawMethod>,
 }

@@ -37,7 +37,7 @@ fn width_of(tag: u8) -> Option<usize>
         3 | 4 => Some(4),
         5 | 6 => Some(8),
         8 | 16 => Some(2),
-        9 | 11 | 18 => Some(4),
+        11 | 18 => Some(4),
         15 => Some(3),
         _ => None,
     }
@@ -63,7 +63,7 @@ fn pass_other(tag: u8, bytes: &[u8]) -> Result<(Entry, bool, &[u8]), ReadError>
 }
 
 /// An item behind its tag (JVMS 4.4): its entry, whether it takes two indices, and the bytes after it.
-#[tactic(auto, unfolding(crate::specs::LayoutReading::tagged_at, crate::specs::LayoutReading::utf8_at, crate::specs::LayoutReading::class_at, crate::specs::LayoutReading::methodref_at, crate::specs::LayoutReading::name_and_type_at))]
+#[tactic(auto, unfolding(crate::specs::LayoutReading::tagged_at, crate::specs::LayoutReading::utf8_at, crate::specs::LayoutReading::class_at, crate::specs::LayoutReading::fieldref_at, crate::specs::LayoutReading::methodref_at, crate::specs::LayoutReading::name_and_type_at))]
 fn read_tagged(alloc: Global, tag: u8, bytes: &[u8]) -> Result<(Entry, bool, &[u8]), ReadError>
     ensures { Gives (λ x. (x.0, x.1, x.2.now)) result (tagged_at tag bytes.now) }
 {
@@ -75,6 +75,10 @@ fn read_tagged(alloc: Global, tag: u8, bytes: &[u8]) -> Result<(Entry, bool, &[u
         7 => {
             let (name, rest) = read_u2(bytes)?;
             Ok((Entry::Class(name), false, rest))
+        }
+        9 => {
+            let (class, name_and_type, rest) = read_pair(bytes)?;
+            Ok((Entry::Fieldref(class, name_and_type), false, rest))
         }
         10 => {
             let (class, name_and_type, rest) = read_pair(bytes)?;

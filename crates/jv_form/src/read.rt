@@ -1,21 +1,33 @@
-ghost use Rattle.std.specs.Prelude.{◌≡◌, ℕ, List, IfOk, Err};
-ghost use Rattle.jv_form.specs.declared.static_class.StaticClass.{StaticClass};
-ghost use Rattle.jv_form.specs.Form.{IsStaticClass};
+ghost use Rattle.std.specs.Prelude.{◌≡◌, ◌↔◌, ℕ, List, IfOk, IsTrue, Err};
+ghost use Rattle.jv_form.specs.declared.object_class.ObjectClass.{ObjectClass};
+ghost use Rattle.jv_form.specs.ObjectForm.{HasMagic, IsObjectClass};
+ghost use Rattle.jv_form.specs.Ranges.{IsInRange};
 
 use crate::class_of_outline::class_of;
 use crate::layout::read_outline;
+use crate::object_class::ObjectClass;
 use crate::read_error::ReadError;
-use crate::static_class::StaticClass;
 use std::alloc::Global;
 
 /// A file has at most this many bytes.
 pub const FILE_LIMIT: usize = 16777216;
 
+/// Whether the bytes begin as each class file does (JVMS 4.1).
+pub fn has_magic(bytes: &[u8]) -> bool
+    ensures { IsTrue result ↔ HasMagic bytes.now }
+{
+    match bytes {
+        [0xCA, 0xFE, 0xBA, 0xBE, ..] => true,
+        _ => false,
+    }
+}
+
 /// Reads the class of this name from the bytes of its file (JVMS 4.1). `Malformed` says that the bytes
-/// aren't the text of a class of static methods over words with this name.
-pub fn read_static_class(alloc: Global, name: &[u8], bytes: &[u8]) -> Result<StaticClass, ReadError>
-    ensures found { IfOk result (IsStaticClass name.now bytes.now) }
-    ensures malformed { result ≡ Err ReadError.Malformed → (c : StaticClass) → IsStaticClass name.now bytes.now c → ⊥ }
+/// aren't the text of a class with this name whose fields and methods are over ints, itself and
+/// `java/lang/Object`.
+pub fn read_object_class(alloc: Global, name: &[u8], bytes: &[u8]) -> Result<ObjectClass, ReadError>
+    ensures found { IfOk result (IsObjectClass name.now bytes.now) }
+    ensures malformed { result ≡ Err ReadError.Malformed → (c : ObjectClass) → IsObjectClass name.now bytes.now c → ⊥ }
 {
     if bytes.len() > FILE_LIMIT {
         return Err(ReadError::Malformed);
@@ -25,6 +37,12 @@ pub fn read_static_class(alloc: Global, name: &[u8], bytes: &[u8]) -> Result<Sta
 }
 
 /// The bytes of a file are no two classes of one name.
-pub fn one_static_class()
-    ensures { (name bytes : List ℕ) (c d : StaticClass) → IsStaticClass name bytes c → IsStaticClass name bytes d → c ≡ d }
+pub fn one_object_class()
+    ensures { (name bytes : List ℕ) (c d : ObjectClass) → IsObjectClass name bytes c → IsObjectClass name bytes d → c ≡ d }
+{}
+
+/// The numbers of a class that bytes are stay within two bytes, and the offsets of a method's
+/// instructions rise.
+pub fn class_in_range()
+    ensures { (name bytes : List ℕ) (c : ObjectClass) → IsObjectClass name bytes c → IsInRange c }
 {}
