@@ -4,3 +4,10 @@ pub mod Frames
 pub mod Returning
 pub mod Instructions
 pub mod Runs
+pub mod Orders
+pub mod Adding
+pub mod Numbers
+pub mod Members
+pub mod Bridging
+pub mod Entries
+pub mod Depth

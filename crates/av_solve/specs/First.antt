@@ -2,4 +2,8 @@
 pub mod Names
 pub mod Depths
 pub mod Rules
+pub mod Forcing
+pub mod Orders
+pub mod Closing
+pub mod Prepared
 pub mod Covered

@@ -1,5 +1,17 @@
 ghost use Rattle.av_solve.specs.First.Covered.{ClosedCover};
 
+mod forcing;
+mod found;
+mod giving;
+mod opening;
+mod prepared;
+mod solver;
+mod solving;
+mod step;
+
+pub use found::Found;
+pub use solving::solve;
+
 /// The law of coverage: facts that are closed under the rules cover each run, its calls and the objects
 /// that stand in frames, in static fields and in the fields of objects.
 pub fn closed_facts_cover()
