@@ -24,3 +24,6 @@ pub use class_file::{ClassFile, Member};
 pub use fault::BadClass;
 pub use read::read_class;
 pub use shaping::shape;
+
+#[cfg(test)]
+mod tests;
