@@ -14,7 +14,8 @@ use Rattle.jv_form.specs.declared.object_class.Placed.{Placed}
 use Rattle.jv_form.specs.declared.object_class.Method.{Method}
 use Rattle.jv_form.specs.declared.object_class.ObjectClass.{ObjectClass}
 use Rattle.jv_form.specs.Kinds as kinds
-use Rattle.jv_form.specs.Kinds.{Effect, IsWalk, result_kinds}
+use Rattle.jv_form.specs.Kinds.{IsKindSafe}
+use Rattle.jv_form.specs.Ranges.{IsInRange}
 use Rattle.av_model.specs.First.Machine.{InstructionAt, IsMain, IsFinalize}
 use Rattle.av_model.proofs.Lists.{append_left, push_at, push_cases}
 use Rattle.av_solve.specs.declared.first.step.Step.{Step}
@@ -125,3 +126,14 @@ closing_entries class steps finalizers old list empty adds =
     (λ none. absurd (nothing_in fact (rw empty at none)))
     (λ edge. rw edge.2 (closed.entry edge.0 edge.1))
     (adds.only fact has))
+
+-- a class that was read from bytes has what the search asks
+pub readable_from : (class : ObjectClass) → IsKindSafe class → IsInRange class → IsReadable class
+readable_from class safe range = record {
+  safe = safe;
+  rises = λ m i j p q at_i at_j early.
+      let same : at_j.0 ≡ at_i.0 = same_Some at_j.0 at_i.0 (sym at_j.1 ∙ at_i.1) in
+      range.rises m i j at_i.0 p q at_i.1 at_i.2 (ap (λ (x : Method). slice_get x.code j) (sym same) ∙ at_j.2) early;
+  few = range.few_methods;
+  low = λ place m here. range.stacks place m here;
+}

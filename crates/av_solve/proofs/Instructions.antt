@@ -245,16 +245,19 @@ module _ (class : ObjectClass) (set : Fact → Bool) (closed : IsClosed class se
       let keeps : KeepsObjects memory.heap heap = keeps_write memory.heap number o after is_own.0 refl in
       let depth : length rest + 2 ≡ depth_at class f.method f.index = omega (arith, h.depth, ap (λ (x : List Cell). length x) split, length-append rest (Object number ∷ cell ∷ [])) in
       let receiver : Stands set memory.heap (slot_place f.method p.pc (OnStack (length rest))) (Object number) =
-          on_stack class set closed memory.heap f p here h (length rest) (Object number) (rw split (two_first rest (Object number) cell)) in
+      on_stack class set closed memory.heap f p here h (length rest) (Object number) (rw split (two_first rest (Object number) cell)) in
       let value : Stands set memory.heap (slot_place f.method p.pc (OnStack (length rest + 1))) cell =
-          on_stack class set closed memory.heap f p here h (length rest + 1) cell (rw split (append_right rest (Object number ∷ cell ∷ []) 1)) in
+      on_stack class set closed memory.heap f p here h (length rest + 1) cell (rw split (append_right rest (Object number ∷ cell ∷ []) 1)) in
       let written : Stands set memory.heap (place.Field (new_at is_own.1.0 is_own.1.1) (own_field field)) cell =
-          Stands-move set memory.heap _ _ cell
-          (λ l. closed.put_field f.method f.index p field (length rest) (new_at is_own.1.0 is_own.1.1) l here is depth (own_label set memory.heap _ number o is_own receiver))
-          value in
+      Stands-move set memory.heap _ _ cell
+      (λ l. closed.put_field f.method f.index p field (length rest) (new_at is_own.1.0 is_own.1.1) l here is depth (own_label set memory.heap _ number o is_own receiver))
+      value in
       record {
-        frames = (FrameStands-keep class set memory.heap heap (next f rest) keeps (pop_next (op.PutField field) is (λ r. r) (λ word w. w) rest (Object number ∷ cell ∷ []) split refl refl), waits,
-          ThreadStands-keep class set memory.heap heap below keeps under);
+        frames = (
+          FrameStands-keep class set memory.heap heap (next f rest) keeps (pop_next (op.PutField field) is (λ r. r) (λ word w. w) rest (Object number ∷ cell ∷ []) split refl refl),
+          waits,
+          ThreadStands-keep class set memory.heap heap below keeps under,
+        );
         memory = record {
           statics = λ n. Stands-keep set memory.heap heap _ (memory.statics n) keeps (m.statics n);
           fields = λ n x method pc other found made.
@@ -347,17 +350,17 @@ module _ (class : ObjectClass) (set : Fact → Bool) (closed : IsClosed class se
       record {
         frames = (
           enters class set memory.heap to words
-          (λ word cell found.
-          ⊎_elim
-          (λ (early : word < first_argument p.instruction). receiver word cell early found)
-          (λ (late : first_argument p.instruction ≤ word).
-          let within : word < length words = slice_get_within words word cell found in
-          let below_taken : word < taken class p.instruction = omega arith in
-          Stands-move set memory.heap _ _ cell
-          (λ l. closed.argument f.method f.index p to (length rest) word l here invokes base late below_taken edge)
-          (on_stack class set closed memory.heap f p here h (length rest + word) cell (rw split (append_right rest words word ∙ found))))
-          (cases_lt word (first_argument p.instruction)))
-          (closed.reach (from.Site (own f.method) p.pc) to edge),
+              (λ word cell found.
+              ⊎_elim
+              (λ (early : word < first_argument p.instruction). receiver word cell early found)
+              (λ (late : first_argument p.instruction ≤ word).
+              let within : word < length words = slice_get_within words word cell found in
+              let below_taken : word < taken class p.instruction = omega arith in
+              Stands-move set memory.heap _ _ cell
+              (λ l. closed.argument f.method f.index p to (length rest) word l here invokes base late below_taken edge)
+              (on_stack class set closed memory.heap f p here h (length rest + word) cell (rw split (append_right rest words word ∙ found))))
+              (cases_lt word (first_argument p.instruction)))
+              (closed.reach (from.Site (own f.method) p.pc) to edge),
           record { p = p; at = here; invokes = invokes; edge = edge },
           (h, waits, under),
         );
@@ -384,7 +387,7 @@ module _ (class : ObjectClass) (set : Fact → Bool) (closed : IsClosed class se
       let taken_is : taken class p.instruction ≡ length words = invokes_taken class p.instruction to invokes ∙ (argument_count-is class to x calls.2 ∙ sym (AllZip-long Fits x.arguments words calls.4)) in
       let base : length rest + taken class p.instruction ≡ depth_at class f.method f.index = omega (arith, taken_is, h.depth, ap (λ (y : List Cell). length y) calls.3, length-append rest words) in
       let receiver : Stands set memory.heap (slot_place f.method p.pc (OnStack (length rest))) (Object number) =
-          on_stack class set closed memory.heap f p here h (length rest) (Object number) (rw calls.3 (receiver_at rest number sent.2)) in
+      on_stack class set closed memory.heap f p here h (length rest) (Object number) (rw calls.3 (receiver_at rest number sent.2)) in
       let selected = λ (l : Label). closed.dispatch f.method f.index p to (length rest) l here sends base in
       let edge = (selected (new_at is_own.1.0 is_own.1.1) (own_label set memory.heap _ number o is_own receiver)).0 in
       rw calls.5
@@ -442,14 +445,16 @@ module _ (class : ObjectClass) (set : Fact → Bool) (closed : IsClosed class se
         let waits_invokes : Invokes q.instruction f.method = rw one at waiting.invokes in
         let same : to ≡ f.method = invokes_one q.instruction to f.method invokes waits_invokes in
         let takes : length g_words ≡ taken class waiting.p.instruction =
-            counted ∙ (sym (invokes_taken class q.instruction to invokes) ∙ ap (λ (x : Placed). taken class x.instruction) (sym one)) in
+        counted ∙ (sym (invokes_taken class q.instruction to invokes) ∙ ap (λ (x : Placed). taken class x.instruction) (sym one)) in
         let gives : length words ≡ given class waiting.p.instruction =
-            length_given ∙ (ap kind_count (sym (return_fits class safe f.method f.index p result here is)) ∙ (sym (result_count-is class f.method here.0 here.1) ∙ sym (invokes_given class waiting.p.instruction f.method waiting.invokes))) in
+        length_given ∙ (ap kind_count (sym (return_fits class safe f.method f.index p result here is)) ∙ (sym (result_count-is class f.method here.0 here.1) ∙ sym (invokes_given class waiting.p.instruction f.method waiting.invokes))) in
         let base : length g_rest + taken class waiting.p.instruction ≡ depth_at class g.method g.index = omega (arith, takes, stands.0.depth, ap (λ (y : List Cell). length y) g_split, length-append g_rest g_words) in
-        rw after_is
-        (goes_on class set closed memory.heap g waiting.p waiting.at stands.0 (invokes_goes waiting.p.instruction f.method waiting.invokes) g_rest g_words words g_split takes gives
-        (returned g waiting (length g_rest) base) (invokes_writes waiting.p.instruction f.method waiting.invokes),
-        stands.1, stands.2)
+        rw after_is (
+          goes_on class set closed memory.heap g waiting.p waiting.at stands.0 (invokes_goes waiting.p.instruction f.method waiting.invokes) g_rest g_words words g_split takes gives
+              (returned g waiting (length g_rest) base) (invokes_writes waiting.p.instruction f.method waiting.invokes),
+          stands.1,
+          stands.2,
+        )
 
   return_stands : IsKindSafe class → (result : Option Kind) → p.instruction ≡ op.Return result → (out : Outcome) → Does class (op.Return result) p.pc memory f below out → OutcomeStands class set out
   return_stands safe result is out (rest, words, split, fits, left) =

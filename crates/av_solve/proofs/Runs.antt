@@ -93,10 +93,13 @@ module _ (class : ObjectClass) (set : Fact → Bool) (closed : IsClosed class se
               ⊎_elim
               (λ before. s.threads thread frames before)
               (λ new_thread.
-              rw (← new_thread.1)
-              (enters class set old.memory.heap place (Object object ∷ [])
-              (λ word cell at_word. receiver_stands place known.object known.is_own.0 known.is_own.1.0 known.is_own.1.1 known.is_own.1.2 called.1 word cell at_word)
-              (closed.reach from.Root place called.0), tt, tt))
+              rw (← new_thread.1) (
+                enters class set old.memory.heap place (Object object ∷ [])
+                    (λ word cell at_word. receiver_stands place known.object known.is_own.0 known.is_own.1.0 known.is_own.1.1 known.is_own.1.2 called.1 word cell at_word)
+                    (closed.reach from.Root place called.0),
+                tt,
+                tt,
+              ))
               (push_cases old.threads (enter place (Object object ∷ []) ∷ []) thread frames found);
           memory = s.memory;
         };

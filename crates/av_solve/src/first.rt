@@ -9,8 +9,7 @@ mod solver;
 mod solving;
 mod step;
 
-pub use found::Found;
-pub use solving::solve;
+pub use solving::least_facts;
 
 /// The law of coverage: facts that are closed under the rules cover each run, its calls and the objects
 /// that stand in frames, in static fields and in the fields of objects.

@@ -22,5 +22,8 @@ pub enum Label {
         depth: u8,
     },
     /// The library made it, with so many dimensions.
-    Lib { base: LibBase, dims: u8 },
+    Lib {
+        base: LibBase,
+        dims: u8,
+    },
 }

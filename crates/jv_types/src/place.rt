@@ -18,7 +18,10 @@ pub enum Place {
         word: u16,
     },
     /// A field of the objects of a label.
-    Field { label: Label, field: FieldId },
+    Field {
+        label: Label,
+        field: FieldId,
+    },
     /// A static field.
     Static(FieldId),
     /// The items of the arrays of a label.
@@ -26,7 +29,10 @@ pub enum Place {
     /// What a method returns.
     Ret(MethodId),
     /// What an instruction throws.
-    Raise { method: MethodId, pc: u16 },
+    Raise {
+        method: MethodId,
+        pc: u16,
+    },
     /// What leaves a method by a throw.
     Thr(MethodId),
 }

@@ -241,7 +241,7 @@ Does class op.InvokeObjectInit pc memory f below out =
     })
 Does class op.New pc memory f below out =
     out ≡ quiet (record memory { heap = memory.heap ++ record { making = New f.method pc; fields = zero_field class } ∷ [] })
-        (next f (f.stack ++ Object (length memory.heap) ∷ [])) below
+    (next f (f.stack ++ Object (length memory.heap) ∷ [])) below
 Does class (op.Return result) pc memory f below out =
     (rest : List Cell) × (words : List Cell) × (f.stack ≡ rest ++ words) × AllZip Fits (result_kinds result) words × Leaves class memory below words out
 

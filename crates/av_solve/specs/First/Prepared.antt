@@ -8,7 +8,7 @@ use Rattle.jv_types.specs.declared.fact.CallFrom.TheVariants.{Root}
 use Rattle.jv_types.specs.declared.fact.Fact.{Fact}
 use Rattle.jv_types.specs.declared.fact.Fact.TheVariants.{Edge}
 use Rattle.jv_form.specs.Flags.{IsPublic, IsStatic}
-use Rattle.jv_form.specs.Form.{main_desc}
+use Rattle.jv_form.specs.Descriptors.{main_desc}
 use Rattle.jv_form.specs.Kinds.{IsKindSafe}
 use Rattle.av_model.specs.First.Machine.{InstructionAt, IsMain, IsFinalize}
 use Rattle.av_solve.specs.declared.first.step.Step.{Step}

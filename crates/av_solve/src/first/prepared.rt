@@ -23,11 +23,7 @@ fn pc_of(code: &[Placed], index: usize) -> u16
 }
 
 /// The instructions of a code as the rules see them. Only memory can be wanting.
-fn code_steps(
-    alloc: Global,
-    class: &ObjectClass,
-    code: &[Placed],
-) -> Result<Vec<Step>, AllocError>
+fn code_steps(alloc: Global, class: &ObjectClass, code: &[Placed]) -> Result<Vec<Step>, AllocError>
     requires { HasLowDepths class.now code.now }
     ensures { IfOk result (λ row. AreStepsOf class.now code.now row.items) }
 {

@@ -7,13 +7,13 @@ use Rattle.av_solve.proofs.first.prepared.add_entries.Goals.{then-is_main+in_ok-
 pub loop-place-preserved : goal.loop-place-preserved
 loop-place-preserved c = elim c.if-is_main.branch [
   | then-is_main+in_ok-add w ↦
-    rw w.found-is
-    (entries_more c.args.class.now c.as_slice-method-items.result.now c.as_slice-method-items.ensures c.loop-place.place c.method-item.result (omega arith) c.method-item.is _ _ _
-    (c.is_main.ensures.0 w.if-is_main.true) c.loop-place.invariant (rw w.own.ensures at w.in_ok-add.ensures))
+      rw w.found-is
+      (entries_more c.args.class.now c.as_slice-method-items.result.now c.as_slice-method-items.ensures c.loop-place.place c.method-item.result (omega arith) c.method-item.is _ _ _
+      (c.is_main.ensures.0 w.if-is_main.true) c.loop-place.invariant (rw w.own.ensures at w.in_ok-add.ensures))
   | else-is_main w ↦
-    rw w.found-is
-    (entries_same c.args.class.now c.as_slice-method-items.result.now c.as_slice-method-items.ensures c.loop-place.place c.method-item.result (omega arith) c.method-item.is _ _
-    (λ main. iff_false c.is_main.ensures w.if-is_main.false main) c.loop-place.invariant)
+      rw w.found-is
+      (entries_same c.args.class.now c.as_slice-method-items.result.now c.as_slice-method-items.ensures c.loop-place.place c.method-item.result (omega arith) c.method-item.is _ _
+      (λ main. iff_false c.is_main.ensures w.if-is_main.false main) c.loop-place.invariant)
 ]
 
 pub returns : goal.returns
