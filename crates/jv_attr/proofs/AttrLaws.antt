@@ -1,10 +1,9 @@
 -- An attribute that is read is spelled so, and what is spelled so is read.
-use Rattle.std.proofs.Common.{◌≡◌, ℕ, ◌+◌, ◌-◌, ◌^◌, ◌<◌, ◌≤◌, Bool, true, false, cond, eqb, leb, ltb, ◌&&◌, ◌||◌, IsTrue, List, [], ◌∷◌, ◌++◌, length, codes, Option, Some, None, Result, Ok, Err, refl, sym, ap, subst, ◌∙◌, ◌⊎◌, inl, inr, append_assoc, arith, IfOk}
+use Rattle.std.proofs.Common.{◌≡◌, ℕ, ◌^◌, ◌<◌, ◌≤◌, Bool, true, false, cond, eqb, leb, ltb, ◌||◌, IsTrue, List, [], ◌∷◌, ◌++◌, length, Option, Some, None, Result, Ok, Err, refl, sym, ap, ◌∙◌, append_assoc, arith, IfOk}
 use Rattle.std.specs.Prelude.{count_by}
 use Rattle.std.specs.List.{AllByRecursion, flat_map}
-use Rattle.std.specs.Str.{bytes_eq}
 use Rattle.std.proofs.lemmas.Bool.{eqb-false, ne_eqb, leb-true, le-leb, ltb-false, le-ltb}
-use Rattle.std.proofs.lemmas.List.{append-nil, length-append}
+use Rattle.std.proofs.lemmas.List.{append-nil}
 use Rattle.jv_types.specs.declared.raw_handler.RawHandler.{RawHandler}
 use Rattle.jv_pool.specs.declared.item.PoolItem.{PoolItem}
 use Rattle.jv_pool.specs.Lookups.{text_at}
@@ -21,11 +20,11 @@ use Rattle.jv_attr.specs.declared.owner.Owner as owners
 use Rattle.jv_attr.specs.declared.owner.Owner.TheVariants as owner
 use Rattle.jv_attr.specs.declared.fault.BadAttr.{BadAttr}
 use Rattle.jv_attr.specs.declared.fault.BadAttr.TheVariants.{Bad, Memory}
-use Rattle.jv_attr.specs.FrameText.{IsFrame, frames_text, AreFewFrames}
-use Rattle.jv_attr.specs.AttrText.{is_code, is_maps, body_text, text_with, IsBody, IsAttrWith, HasFewWith, IsShortWith, no_code_text, IsNoCode, inner_text, IsInner, IsInnerFew, IsInnerShort, has_maps, handler_text, is_catch, IsHandler, code_text, IsCode, IsFewCode, IsShortCode, attr_text, IsAttr, HasFew, IsShort, IsAttrText, BeginsWithAttr}
-use Rattle.jv_attr.specs.Reading.{Gives, Fails, many_at}
+use Rattle.jv_attr.specs.FrameText.{frames_text}
+use Rattle.jv_attr.specs.AttrText.{is_code, is_maps, body_text, IsBody, HasFewWith, IsShortWith, no_code_text, IsNoCode, inner_text, IsInner, IsInnerFew, IsInnerShort, has_maps, handler_text, is_catch, IsHandler, code_text, IsCode, IsFewCode, IsShortCode, attr_text, IsAttr, HasFew, IsShort, IsAttrText, BeginsWithAttr}
+use Rattle.jv_attr.specs.Reading.{Gives, many_at}
 use Rattle.jv_attr.specs.AttrReading.{maps_at, head_at, other_at, inner_at, handler_at, handlers_at, code_bytes_at, inners_at, code_at, whole_code_at, body_at, attr_at}
-use Rattle.jv_attr.proofs.Many.{many_take, many_again, both_of, first_of_both, second_of_both}
+use Rattle.jv_attr.proofs.Many.{many_take, many_again}
 use Rattle.jv_attr.proofs.FrameLaws.{maps_take, maps_again, nothing_left}
 
 -- ---- a name and a content

@@ -1,5 +1,5 @@
 -- Reading attributes from the front of a list of bytes, part by part.
-use Rattle.std.specs.Prelude.{ℕ, ◌-◌, List, [], ◌∷◌, length, count_by, Bool, true, false, ◌||◌, ◌==◌, nat_le, nat_lt, Option, Some, None, if◌then◌else◌}
+use Rattle.std.specs.Prelude.{ℕ, ◌-◌, List, [], length, count_by, Bool, true, false, ◌||◌, ◌==◌, nat_le, nat_lt, Option, Some, None, if◌then◌else◌}
 use Rattle.jv_table.specs.declared.class_tables.FrameGroup.{FrameGroup}
 use Rattle.jv_table.specs.declared.class_tables.FrameGroup.TheVariants.{Same, SameOne, SameOneExtended, Chop, SameExtended, Append, Full}
 use Rattle.jv_types.specs.declared.raw_handler.RawHandler.{RawHandler}

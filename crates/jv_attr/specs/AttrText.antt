@@ -1,6 +1,6 @@
 -- The text of an attribute (JVMS 4.7, 4.7.3, 4.7.4): the index of its name, the length of its content in
 -- four bytes, and the content.
-use Rattle.std.specs.Prelude.{◌≡◌, ◌<◌, ◌≤◌, ℕ, ◌^◌, Bool, true, false, ◌&&◌, nat_le, ◌||◌, ◌==◌, IsTrue, List, [], ◌∷◌, ◌++◌, length, Some, codes, count_by}
+use Rattle.std.specs.Prelude.{◌≡◌, ◌<◌, ◌≤◌, ℕ, ◌^◌, Bool, true, false, ◌&&◌, nat_le, ◌||◌, ◌==◌, IsTrue, List, ◌++◌, length, Some, codes, count_by}
 use Rattle.std.specs.List.{flat_map, AllByRecursion}
 use Rattle.std.specs.Str.{bytes_eq}
 use Rattle.jv_types.specs.declared.raw_handler.RawHandler.{RawHandler}

@@ -37,7 +37,7 @@ fn reads_the_code_of_main(rt: HostRuntime) -> Result<(), Fail> {
     put_attr(rt.alloc(), &mut writer, &attr)?;
     assert_eq!(rt; writer.done().as_slice(), MAIN.as_slice());
     assert!(rt; has_few(&attr));
-    match attr.body {
+    match &attr.body {
         AttrBody::Code(code) => {
             assert_eq!(rt; code.max_stack, 2);
             assert_eq!(rt; code.max_locals, 1);
@@ -55,7 +55,7 @@ fn reads_the_code_of_main(rt: HostRuntime) -> Result<(), Fail> {
 fn reads_code_of_a_method_alone(rt: HostRuntime) -> Result<(), Fail> {
     let pool = pool(rt.alloc())?;
     let attr = read_attr(rt.alloc(), &mut Cursor::new(&MAIN), &pool, Owner::Field, 52)?;
-    assert!(rt; matches!(attr.body, AttrBody::Raw(_)));
+    assert!(rt; matches!(&attr.body, AttrBody::Raw(_)));
     Ok(())
 }
 
@@ -66,7 +66,7 @@ fn reads_frames(rt: HostRuntime) -> Result<(), Fail> {
     let mut writer = Writer::new(rt.alloc());
     put_attr(rt.alloc(), &mut writer, &attr)?;
     assert_eq!(rt; writer.done().as_slice(), MAPS.as_slice());
-    match attr.body {
+    match &attr.body {
         AttrBody::Maps(frames) => {
             let full = frames.as_slice().get(6).ok_or("a frame")?;
             assert_eq!(rt; frames.len(), 8);
@@ -84,7 +84,7 @@ fn reads_frames(rt: HostRuntime) -> Result<(), Fail> {
         _ => assert!(rt; false),
     }
     let old = read_attr(rt.alloc(), &mut Cursor::new(&MAPS), &pool, Owner::Code, 49)?;
-    assert!(rt; matches!(old.body, AttrBody::Raw(_)));
+    assert!(rt; matches!(&old.body, AttrBody::Raw(_)));
     Ok(())
 }
 

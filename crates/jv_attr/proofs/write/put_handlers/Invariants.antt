@@ -1,6 +1,6 @@
 -- What was passed is written.
 use Rattle.std.proofs.Common.{◌≡◌, ◌++◌, take}
-use Rattle.std.specs.List.{flat_map, AllByRecursion}
+use Rattle.std.specs.List.{flat_map}
 use Rattle.jv_attr.specs.AttrText.{handler_text}
 use Rattle.jv_attr.proofs.write.put_handlers.Given as goal
 
