@@ -16,3 +16,6 @@ pub use solving::least_facts;
 pub fn closed_facts_cover()
     ensures { ClosedCover }
 {}
+
+#[cfg(test)]
+mod tests;
