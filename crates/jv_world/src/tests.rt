@@ -4,38 +4,42 @@ use sqlite_items::Boxed;
 use std::alloc::{AllocError, Global};
 use std::test::Fail;
 
-/// A class of a table: its name and flags, its superclass, and two superinterfaces; a name that is empty
-/// is none.
-type Row = (
-    &'static [u8],
-    u16,
-    &'static [u8],
-    &'static [u8],
-    &'static [u8],
-);
+/// Whether a byte stands between the parts of a class.
+fn is_comma(byte: &u8) -> bool {
+    *byte == b','
+}
 
-const CLASS: u16 = 0x21;
+/// Whether a byte stands between the words of a line.
+fn is_space(byte: &u8) -> bool {
+    *byte == b' '
+}
 
-const FINAL: u16 = 0x31;
-
-const INTERFACE: u16 = 0x601;
-
-fn shape_of(alloc: Global, row: &Row) -> Result<Shape, AllocError> {
-    let (name, flags, parent, first, second) = *row;
-    let mut interfaces = Seq::new(alloc);
-    for interface in [first, second] {
-        if !interface.is_empty() {
-            interfaces.push(Name::from_slice(alloc, interface)?)?;
-        }
+/// The access flags of a class, a final class or an interface, by its letter.
+fn flags_of(letter: &[u8]) -> Access {
+    match letter {
+        b"F" => Access(0x31),
+        b"I" => Access(0x601),
+        _ => Access(0x21),
     }
-    let parent = if parent.is_empty() {
-        None
-    } else {
-        Some(Name::from_slice(alloc, parent)?)
+}
+
+/// A class of a line: its name, the letter of its kind, its superclass (or nothing) and its interfaces.
+fn shape_of(alloc: Global, word: &[u8]) -> Result<Shape, AllocError> {
+    let mut parts = word.split(is_comma);
+    let name = parts.next().unwrap_or(b"");
+    let flags = flags_of(parts.next().unwrap_or(b""));
+    let parent = match parts.next() {
+        None => None,
+        Some(b"") => None,
+        Some(parent) => Some(Name::from_slice(alloc, parent)?),
     };
+    let mut interfaces = Seq::new(alloc);
+    for interface in parts {
+        interfaces.push(Name::from_slice(alloc, interface)?)?;
+    }
     Ok(Shape {
         name: Name::from_slice(alloc, name)?,
-        flags: Access(flags),
+        flags,
         parent,
         interfaces,
         fields: Seq::new(alloc),
@@ -44,10 +48,11 @@ fn shape_of(alloc: Global, row: &Row) -> Result<Shape, AllocError> {
     })
 }
 
-fn build(alloc: Global, rows: &[Row]) -> Result<World, HierRefusal> {
+/// The world of a line of classes.
+fn build(alloc: Global, line: &[u8]) -> Result<World, HierRefusal> {
     let mut shapes = Vec::new(alloc);
-    for row in rows {
-        shapes.push(shape_of(alloc, row)?)?;
+    for word in line.split(is_space) {
+        shapes.push(shape_of(alloc, word)?)?;
     }
     if !are_numbered(alloc, shapes.as_slice())? {
         return Err(HierRefusal::Memory);
@@ -55,375 +60,134 @@ fn build(alloc: Global, rows: &[Row]) -> Result<World, HierRefusal> {
     World::build(alloc, shapes)
 }
 
-/// Object, an interface, one that extends it, and a class that implements both.
-fn small(alloc: Global) -> Result<World, HierRefusal> {
-    build(
-        alloc,
-        [
-            (
-                b"a/C".as_slice(),
-                CLASS,
-                b"java/lang/Object".as_slice(),
-                b"a/I".as_slice(),
-                b"a/J".as_slice(),
-            ),
-            (
-                b"a/J".as_slice(),
-                INTERFACE,
-                b"java/lang/Object".as_slice(),
-                b"a/I".as_slice(),
-                b"".as_slice(),
-            ),
-            (
-                b"java/lang/Object".as_slice(),
-                CLASS,
-                b"".as_slice(),
-                b"".as_slice(),
-                b"".as_slice(),
-            ),
-            (
-                b"a/I".as_slice(),
-                INTERFACE,
-                b"java/lang/Object".as_slice(),
-                b"".as_slice(),
-                b"".as_slice(),
-            ),
-        ]
-        .as_slice(),
-    )
-}
+static SMALL: &[u8] =
+    b"a/C,C,java/lang/Object,a/I,a/J a/J,I,java/lang/Object,a/I java/lang/Object,C a/I,I,java/lang/Object";
 
 #[test]
 fn answers_over_a_small_world(rt: HostRuntime) -> Result<(), Fail> {
     let alloc = rt.alloc();
-    let world = small(alloc)?;
-    assert_eq!(rt; world.shapes().len(), 4);
+    let world = build(alloc, SMALL)?;
     let class = world.class(&Name::from_slice(alloc, b"a/C")?).ok_or("a/C")?;
     let upper = world.class(&Name::from_slice(alloc, b"a/I")?).ok_or("a/I")?;
-    let object = world
-        .class(&Name::from_slice(alloc, b"java/lang/Object")?)
-        .ok_or("Object")?;
-    assert!(rt; world.class(&Name::from_slice(alloc, b"a/K")?).is_none());
+    assert_eq!(rt; world.shapes().len(), 4);
     assert_eq!(rt; world.shape(class).name.as_slice(), b"a/C".as_slice());
     assert!(rt; world.sub(class, upper));
-    assert!(rt; world.sub(upper, upper));
     assert!(rt; !world.sub(upper, class));
-    assert_eq!(rt; world.superclass(class), Some(object));
-    assert_eq!(rt; world.superclass(object), None);
     assert_eq!(rt; world.superclasses(alloc, class)?.len(), 1);
-    let supers = world.supers(alloc, class)?;
-    assert_eq!(rt; supers.len(), 3);
-    let mut numbers = Vec::new(alloc);
-    for found in supers.as_slice() {
-        numbers.push(found.number)?;
-    }
-    assert_eq!(rt; numbers.as_slice(), [1, 2, 3].as_slice());
-    assert_eq!(rt; world.proper_supers(object).len(), 0);
     Ok(())
 }
 
-fn class_type(alloc: Global, name: &[u8]) -> Result<RefType, AllocError> {
-    Ok(RefType::Class(Name::from_slice(alloc, name)?))
+#[test]
+fn lists_supertypes(rt: HostRuntime) -> Result<(), Fail> {
+    let alloc = rt.alloc();
+    let world = build(alloc, SMALL)?;
+    let class = world.class(&Name::from_slice(alloc, b"a/C")?).ok_or("a/C")?;
+    let object = world.superclass(class).ok_or("its superclass")?;
+    assert_eq!(rt; object.number, 2);
+    assert_eq!(rt; world.proper_supers(object).len(), 0);
+    let mut next = 1;
+    for found in world.supers(alloc, class)?.as_slice() {
+        assert_eq!(rt; found.number, next);
+        next = found.number.wrapping_add(1);
+    }
+    assert_eq!(rt; next, 4);
+    Ok(())
 }
 
-fn array_of(alloc: Global, item: RefType) -> Result<RefType, AllocError> {
-    Ok(RefType::Array(Boxed::new(alloc, item)?))
+/// A class by its name, or an array of it or of int.
+fn type_of(alloc: Global, text: &[u8]) -> Result<RefType, AllocError> {
+    match text {
+        b"[I" => Ok(RefType::PrimArray(Prim::Int)),
+        b"[J" => Ok(RefType::PrimArray(Prim::Long)),
+        [b'[', name @ ..] => {
+            let item = RefType::Class(Name::from_slice(alloc, name)?);
+            Ok(RefType::Array(Boxed::new(alloc, item)?))
+        }
+        _ => Ok(RefType::Class(Name::from_slice(alloc, text)?)),
+    }
+}
+
+static INSTANCES: [&[u8]; 6] = [
+    b"a/C a/I",
+    b"[a/C [a/I",
+    b"[a/C java/lang/Object",
+    b"[I java/lang/Cloneable",
+    b"[I java/io/Serializable",
+    b"[I [I",
+];
+
+static NO_INSTANCES: [&[u8]; 5] = [b"a/I a/C", b"[a/I [a/C", b"[I a/C", b"[I [J", b"[I [a/C"];
+
+/// Whether the first type of a line is an instance of the second.
+fn is_instance(alloc: Global, world: &World, line: &[u8]) -> Result<bool, AllocError> {
+    let mut words = line.split(is_space);
+    let t = type_of(alloc, words.next().unwrap_or(b""))?;
+    let of = type_of(alloc, words.next().unwrap_or(b""))?;
+    Ok(world.is_instance(&t, &of))
 }
 
 #[test]
 fn tells_instances(rt: HostRuntime) -> Result<(), Fail> {
     let alloc = rt.alloc();
-    let world = small(alloc)?;
-    let class = class_type(alloc, b"a/C")?;
-    let interface = class_type(alloc, b"a/I")?;
-    assert!(rt; world.is_instance(&class, &interface));
-    assert!(rt; !world.is_instance(&interface, &class));
-    let classes = array_of(alloc, class)?;
-    let interfaces = array_of(alloc, interface)?;
-    assert!(rt; world.is_instance(&classes, &interfaces));
-    assert!(rt; !world.is_instance(&interfaces, &classes));
-    let numbers = RefType::PrimArray(Prim::Int);
-    for name in [
-        b"java/lang/Object".as_slice(),
-        b"java/lang/Cloneable".as_slice(),
-        b"java/io/Serializable".as_slice(),
-    ] {
-        let upper = class_type(alloc, name)?;
-        assert!(rt; world.is_instance(&numbers, &upper));
-        assert!(rt; world.is_instance(&classes, &upper));
+    let world = build(alloc, SMALL)?;
+    for line in INSTANCES.iter() {
+        assert!(rt; is_instance(alloc, &world, line)?);
     }
-    assert!(rt; world.is_instance(&numbers, &numbers));
-    assert!(rt; !world.is_instance(&numbers, &RefType::PrimArray(Prim::Long)));
-    assert!(rt; !world.is_instance(&numbers, &interfaces));
+    for line in NO_INSTANCES.iter() {
+        assert!(rt; !is_instance(alloc, &world, line)?);
+    }
     Ok(())
 }
 
-/// What the rows are refused for, with Object put before them.
-fn refusal(alloc: Global, rows: &[Row]) -> Result<Option<HierRefusal>, AllocError> {
-    let mut all = Vec::new(alloc);
-    all.push((
-        b"java/lang/Object".as_slice(),
-        CLASS,
-        b"".as_slice(),
-        b"".as_slice(),
-        b"".as_slice(),
-    ))?;
-    for row in rows {
-        all.push(*row)?;
+/// What is refused, by the letter of the refusal and the name, and the classes.
+static REFUSED: [(&[u8], &[u8]); 11] = [
+    (b"Ma/Z", b"java/lang/Object,C a/A,C,a/Z"),
+    (
+        b"Ma/B",
+        b"java/lang/Object,C a/A,C,b/Z c/C,C,java/lang/Object,a/B",
+    ),
+    (b"Mz/Z", b"java/lang/Object,C a/A,C,a/A b/B,C,,z/Z"),
+    (b"Ca/A", b"java/lang/Object,C a/A,C,a/A"),
+    (b"Cb/B", b"java/lang/Object,C c/C,C,b/B a/A,C,b/B b/B,C,c/C"),
+    (
+        b"Ci/I",
+        b"java/lang/Object,C a/A,C i/J,I,java/lang/Object,i/I i/I,I,java/lang/Object,i/J",
+    ),
+    (
+        b"Sa/A",
+        b"java/lang/Object,C i/I,I,java/lang/Object a/A,C,i/I",
+    ),
+    (
+        b"Sa/A",
+        b"java/lang/Object,C b/B,C,f/F f/F,F,java/lang/Object a/A,C,f/F",
+    ),
+    (b"Sa/A", b"java/lang/Object,C a/A,C"),
+    (
+        b"Sa/A",
+        b"java/lang/Object,C a/A,C,java/lang/Object,b/B b/B,C,java/lang/Object",
+    ),
+    (
+        b"Si/I",
+        b"java/lang/Object,C b/B,C,java/lang/Object i/I,I,b/B",
+    ),
+];
+
+/// Whether a refusal is this one, by its letter and name.
+fn is_refusal(refusal: &HierRefusal, wanted: &[u8]) -> bool {
+    match (refusal, wanted) {
+        (HierRefusal::Missing(name), [b'M', rest @ ..]) => name.as_slice() == rest,
+        (HierRefusal::Circular(name), [b'C', rest @ ..]) => name.as_slice() == rest,
+        (HierRefusal::SuperKind(name), [b'S', rest @ ..]) => name.as_slice() == rest,
+        _ => false,
     }
-    Ok(build(alloc, all.as_slice()).err())
 }
 
 #[test]
-fn refuses_what_is_no_world(rt: HostRuntime) -> Result<(), Fail> {
-    let alloc = rt.alloc();
-    assert_eq!(rt;
-        refusal(
-            alloc,
-            [(
-                b"a/A".as_slice(),
-                CLASS,
-                b"a/Z".as_slice(),
-                b"".as_slice(),
-                b"".as_slice()
-            ),]
-            .as_slice()
-        )?,
-        Some(HierRefusal::Missing(Name::from_slice(alloc, b"a/Z")?))
-    );
-    assert_eq!(rt;
-        refusal(
-            alloc,
-            [
-                (
-                    b"a/A".as_slice(),
-                    CLASS,
-                    b"b/Z".as_slice(),
-                    b"".as_slice(),
-                    b"".as_slice()
-                ),
-                (
-                    b"c/C".as_slice(),
-                    CLASS,
-                    b"java/lang/Object".as_slice(),
-                    b"a/B".as_slice(),
-                    b"".as_slice()
-                ),
-            ]
-            .as_slice()
-        )?,
-        Some(HierRefusal::Missing(Name::from_slice(alloc, b"a/B")?))
-    );
-    assert_eq!(rt;
-        refusal(
-            alloc,
-            [
-                (
-                    b"a/A".as_slice(),
-                    CLASS,
-                    b"a/A".as_slice(),
-                    b"".as_slice(),
-                    b"".as_slice()
-                ),
-                (
-                    b"b/B".as_slice(),
-                    CLASS,
-                    b"".as_slice(),
-                    b"z/Z".as_slice(),
-                    b"".as_slice()
-                ),
-            ]
-            .as_slice()
-        )?,
-        Some(HierRefusal::Missing(Name::from_slice(alloc, b"z/Z")?))
-    );
-    assert_eq!(rt;
-        refusal(
-            alloc,
-            [(
-                b"a/A".as_slice(),
-                CLASS,
-                b"a/A".as_slice(),
-                b"".as_slice(),
-                b"".as_slice()
-            ),]
-            .as_slice()
-        )?,
-        Some(HierRefusal::Circular(Name::from_slice(alloc, b"a/A")?))
-    );
-    assert_eq!(rt;
-        refusal(
-            alloc,
-            [
-                (
-                    b"c/C".as_slice(),
-                    CLASS,
-                    b"b/B".as_slice(),
-                    b"".as_slice(),
-                    b"".as_slice()
-                ),
-                (
-                    b"a/A".as_slice(),
-                    CLASS,
-                    b"b/B".as_slice(),
-                    b"".as_slice(),
-                    b"".as_slice()
-                ),
-                (
-                    b"b/B".as_slice(),
-                    CLASS,
-                    b"c/C".as_slice(),
-                    b"".as_slice(),
-                    b"".as_slice()
-                ),
-            ]
-            .as_slice()
-        )?,
-        Some(HierRefusal::Circular(Name::from_slice(alloc, b"b/B")?))
-    );
-    assert_eq!(rt;
-        refusal(
-            alloc,
-            [
-                (
-                    b"a/A".as_slice(),
-                    CLASS,
-                    b"".as_slice(),
-                    b"".as_slice(),
-                    b"".as_slice()
-                ),
-                (
-                    b"i/J".as_slice(),
-                    INTERFACE,
-                    b"java/lang/Object".as_slice(),
-                    b"i/I".as_slice(),
-                    b"".as_slice()
-                ),
-                (
-                    b"i/I".as_slice(),
-                    INTERFACE,
-                    b"java/lang/Object".as_slice(),
-                    b"i/J".as_slice(),
-                    b"".as_slice()
-                ),
-            ]
-            .as_slice()
-        )?,
-        Some(HierRefusal::Circular(Name::from_slice(alloc, b"i/I")?))
-    );
-    assert_eq!(rt;
-        refusal(
-            alloc,
-            [
-                (
-                    b"i/I".as_slice(),
-                    INTERFACE,
-                    b"java/lang/Object".as_slice(),
-                    b"".as_slice(),
-                    b"".as_slice()
-                ),
-                (
-                    b"a/A".as_slice(),
-                    CLASS,
-                    b"i/I".as_slice(),
-                    b"".as_slice(),
-                    b"".as_slice()
-                ),
-            ]
-            .as_slice()
-        )?,
-        Some(HierRefusal::SuperKind(Name::from_slice(alloc, b"a/A")?))
-    );
-    assert_eq!(rt;
-        refusal(
-            alloc,
-            [
-                (
-                    b"b/B".as_slice(),
-                    CLASS,
-                    b"f/F".as_slice(),
-                    b"".as_slice(),
-                    b"".as_slice()
-                ),
-                (
-                    b"f/F".as_slice(),
-                    FINAL,
-                    b"java/lang/Object".as_slice(),
-                    b"".as_slice(),
-                    b"".as_slice()
-                ),
-                (
-                    b"a/A".as_slice(),
-                    CLASS,
-                    b"f/F".as_slice(),
-                    b"".as_slice(),
-                    b"".as_slice()
-                ),
-            ]
-            .as_slice()
-        )?,
-        Some(HierRefusal::SuperKind(Name::from_slice(alloc, b"a/A")?))
-    );
-    assert_eq!(rt;
-        refusal(
-            alloc,
-            [(
-                b"a/A".as_slice(),
-                CLASS,
-                b"".as_slice(),
-                b"".as_slice(),
-                b"".as_slice()
-            ),]
-            .as_slice()
-        )?,
-        Some(HierRefusal::SuperKind(Name::from_slice(alloc, b"a/A")?))
-    );
-    assert_eq!(rt;
-        refusal(
-            alloc,
-            [
-                (
-                    b"a/A".as_slice(),
-                    CLASS,
-                    b"java/lang/Object".as_slice(),
-                    b"b/B".as_slice(),
-                    b"".as_slice()
-                ),
-                (
-                    b"b/B".as_slice(),
-                    CLASS,
-                    b"java/lang/Object".as_slice(),
-                    b"".as_slice(),
-                    b"".as_slice()
-                ),
-            ]
-            .as_slice()
-        )?,
-        Some(HierRefusal::SuperKind(Name::from_slice(alloc, b"a/A")?))
-    );
-    assert_eq!(rt;
-        refusal(
-            alloc,
-            [
-                (
-                    b"b/B".as_slice(),
-                    CLASS,
-                    b"java/lang/Object".as_slice(),
-                    b"".as_slice(),
-                    b"".as_slice()
-                ),
-                (
-                    b"i/I".as_slice(),
-                    INTERFACE,
-                    b"b/B".as_slice(),
-                    b"".as_slice(),
-                    b"".as_slice()
-                ),
-            ]
-            .as_slice()
-        )?,
-        Some(HierRefusal::SuperKind(Name::from_slice(alloc, b"i/I")?))
-    );
-    assert_eq!(rt; refusal(alloc, [].as_slice())?, None);
-    Ok(())
+fn refuses_what_is_no_world(rt: HostRuntime) {
+    for (wanted, line) in REFUSED.iter() {
+        match build(rt.alloc(), line) {
+            Ok(_) => assert!(rt; false),
+            Err(refusal) => assert!(rt; is_refusal(&refusal, wanted)),
+        }
+    }
 }
