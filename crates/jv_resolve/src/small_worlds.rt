@@ -1,0 +1,607 @@
+ghost use Rattle.std.specs.Prelude.{IfOk, IfSome};
+ghost use Rattle.jv_resolve.specs.Members.{HasMethod};
+
+use super::*;
+use crate::members::{declared_field, declared_method};
+use bitflags::Flags;
+use jv_types::{
+    Access, Desc, FieldRef, FieldShape, MethodDesc, MethodId, MethodRef, MethodShape, Name, Prim,
+    RefType, Seq, Shape,
+};
+use jv_world::{HierRefusal, World, are_numbered};
+use std::alloc::{AllocError, Global};
+use std::test::Fail;
+
+// ---- lines of text read
+
+/// Whether a byte stands between the parts of a class.
+fn is_comma(byte: &u8) -> bool {
+    *byte == b','
+}
+
+/// Whether a byte stands between the words of a line.
+fn is_space(byte: &u8) -> bool {
+    *byte == b' '
+}
+
+/// Whether a byte stands between a class and its member.
+fn is_dot(byte: &u8) -> bool {
+    *byte == b'.'
+}
+
+/// Whether a byte stands between a field and the class that is its type.
+fn is_colon(byte: &u8) -> bool {
+    *byte == b':'
+}
+
+/// Whether a byte stands around the parameter of a method.
+fn is_bracket(byte: &u8) -> bool {
+    *byte == b'(' || *byte == b')'
+}
+
+/// The type of a letter: int, or Object, or none.
+fn type_of(alloc: Global, letter: &[u8]) -> Result<Option<Desc>, AllocError> {
+    match letter {
+        b"I" => Ok(Some(Desc::Prim(Prim::Int))),
+        b"O" => {
+            let name = Name::from_slice(alloc, b"java/lang/Object")?;
+            Ok(Some(Desc::Ref(RefType::Class(name))))
+        }
+        _ => Ok(None),
+    }
+}
+
+/// The descriptor of a method such as `m(I)O`, which has a parameter and a result, or `m`, which has neither.
+fn desc_of(alloc: Global, method: &[u8]) -> Result<MethodDesc, AllocError> {
+    let mut parts = method.split(is_bracket).skip(1);
+    let mut params = Seq::new(alloc);
+    if let Some(param) = type_of(alloc, parts.next().unwrap_or(b""))? {
+        params.push(param)?;
+    }
+    let result = type_of(alloc, parts.next().unwrap_or(b""))?;
+    Ok(MethodDesc { params, result })
+}
+
+/// The name of a method such as `m(I)O`.
+fn name_of(alloc: Global, method: &[u8]) -> Result<Name, AllocError> {
+    Name::from_slice(alloc, method.split(is_bracket).next().unwrap_or(b""))
+}
+
+/// The access flags of a member, by the two marks in front of it: `+` public, `#` protected, `~`
+/// package-private or `-` private, then `s` static, `a` abstract or `.` neither.
+fn access_of(marks: &[u8]) -> Option<Access> {
+    let access: u16 = match marks.first() {
+        Some(b'+') => 1,
+        Some(b'#') => 4,
+        Some(b'~') => 0,
+        Some(b'-') => 2,
+        _ => return None,
+    };
+    let kind: u16 = match marks.get(1) {
+        Some(b's') => 8,
+        Some(b'a') => 0x400,
+        _ => 0,
+    };
+    Some(Access(access | kind))
+}
+
+/// Adds a part of a class: an interface, a field such as `+.x:a/T` or a method such as `+.m(I)O`.
+fn add_part(alloc: Global, shape: &mut Shape, part: &[u8]) -> Result<(), AllocError> {
+    let Some(flags) = access_of(part) else {
+        shape.interfaces.push(Name::from_slice(alloc, part)?)?;
+        return Ok(());
+    };
+    let member = part.get(2..).unwrap_or(b"");
+    let mut parts = member.split(is_colon);
+    let name = parts.next().unwrap_or(b"");
+    if let Some(class) = parts.next() {
+        let desc = Desc::Ref(RefType::Class(Name::from_slice(alloc, class)?));
+        let name = Name::from_slice(alloc, name)?;
+        shape.fields.push(FieldShape { name, desc, flags })?;
+        return Ok(());
+    }
+    shape.methods.push(MethodShape {
+        name: name_of(alloc, member)?,
+        desc: desc_of(alloc, member)?,
+        flags,
+        code: !flags.contains(Access::ABSTRACT),
+    })?;
+    Ok(())
+}
+
+/// The superclass of a class: that of the text, or else Object.
+fn parent_of(alloc: Global, class: &[u8], text: &[u8]) -> Result<Option<Name>, AllocError> {
+    if class == b"java/lang/Object".as_slice() {
+        return Ok(None);
+    }
+    if text.is_empty() {
+        return Ok(Some(Name::from_slice(alloc, b"java/lang/Object")?));
+    }
+    Ok(Some(Name::from_slice(alloc, text)?))
+}
+
+/// A class of a line: its name, `C` or `I` for an interface, its superclass and then its parts.
+fn shape_of(alloc: Global, word: &[u8]) -> Result<Shape, AllocError> {
+    let mut parts = word.split(is_comma);
+    let name = parts.next().unwrap_or(b"");
+    let is_interface = parts.next() == Some(b"I".as_slice());
+    let mut shape = Shape {
+        name: Name::from_slice(alloc, name)?,
+        flags: if is_interface {
+            Access(0x601)
+        } else {
+            Access(0x21)
+        },
+        parent: parent_of(alloc, name, parts.next().unwrap_or(b""))?,
+        interfaces: Seq::new(alloc),
+        fields: Seq::new(alloc),
+        methods: Seq::new(alloc),
+        application: true,
+    };
+    for part in parts {
+        add_part(alloc, &mut shape, part)?;
+    }
+    Ok(shape)
+}
+
+static OBJECT: &[u8] =
+    b"java/lang/Object,C,,+.<init>,+.toString()O,+.hashCode()I,#.clone()O,#.finalize";
+
+/// The world of Object and the classes of a line.
+fn build(alloc: Global, line: &[u8]) -> Result<World, HierRefusal> {
+    let mut shapes = Vec::new(alloc);
+    shapes.push(shape_of(alloc, OBJECT)?)?;
+    for word in line.split(is_space) {
+        shapes.push(shape_of(alloc, word)?)?;
+    }
+    if !are_numbered(alloc, shapes.as_slice())? {
+        return Err(HierRefusal::Memory);
+    }
+    World::build(alloc, shapes)
+}
+
+/// The method that the class declares, of a text such as `a/C.m(I)O`.
+fn method_of(alloc: Global, world: &World, text: &[u8]) -> Result<Option<MethodId>, AllocError>
+    ensures { IfOk result (λ o. IfSome o (HasMethod world.now)) }
+{
+    let mut parts = text.split(is_dot);
+    let class = Name::from_slice(alloc, parts.next().unwrap_or(b""))?;
+    let member = parts.next().unwrap_or(b"");
+    let name = name_of(alloc, member)?;
+    let desc = desc_of(alloc, member)?;
+    let Some(c) = world.class(&class) else {
+        return Ok(None);
+    };
+    Ok(declared_method(world, c, &name, &desc))
+}
+
+/// A reference to a method, of a text such as `a/C.m(I)O`, or `[I.m` for a method of an array.
+fn method_ref_of(alloc: Global, text: &[u8]) -> Result<MethodRef, AllocError> {
+    let mut parts = text.split(is_dot);
+    let class = match parts.next() {
+        Some(b"[I") => RefType::PrimArray(Prim::Int),
+        class => RefType::Class(Name::from_slice(alloc, class.unwrap_or(b""))?),
+    };
+    let member = parts.next().unwrap_or(b"");
+    Ok(MethodRef {
+        class,
+        name: name_of(alloc, member)?,
+        desc: desc_of(alloc, member)?,
+        interface: false,
+    })
+}
+
+/// The refusal of a name.
+fn refusal_of(name: &[u8]) -> Option<ResolveRefusal> {
+    match name {
+        b"WrongKind" => Some(ResolveRefusal::WrongKind),
+        b"NotFound" => Some(ResolveRefusal::NotFound),
+        b"NoAccess" => Some(ResolveRefusal::NoAccess),
+        _ => None,
+    }
+}
+
+// ---- resolution of methods
+
+/// Worlds, each with a class, a reference that it has to a method of a class or an interface, and what is
+/// found.
+static METHODS: [(&[u8], &[u8], &[u8]); 33] = [
+    // the class and its superclasses come first
+    (b"a/P,C,,+.m a/C,C,a/P,+.m", b"a/C class a/C.m", b"a/C.m"),
+    (
+        b"a/I,I,,+.m a/P,C,,+.m a/C,C,a/P,a/I",
+        b"a/C class a/C.m",
+        b"a/P.m",
+    ),
+    (
+        b"a/I,I,,+.m a/P,C,,+am a/C,C,a/P,a/I",
+        b"a/C class a/C.m",
+        b"a/P.m",
+    ),
+    (
+        b"a/P,C,,+.m(I)O a/C,C,a/P,+.n",
+        b"a/C class a/C.m",
+        b"NotFound",
+    ),
+    // then the single default among the maximally specific superinterface methods
+    (
+        b"a/I,I,,+.m a/J,I,,a/I,+.m a/C,C,,a/I,a/J",
+        b"a/C class a/C.m",
+        b"a/J.m",
+    ),
+    (
+        b"a/I,I,,+am a/J,I,,+.m a/C,C,,a/I,a/J",
+        b"a/C class a/C.m",
+        b"a/J.m",
+    ),
+    // then any superinterface method that is neither private nor static: the first one depth first
+    (
+        b"a/I,I,,+.m a/J,I,,+.m a/C,C,,a/J,a/I",
+        b"a/C class a/C.m",
+        b"a/J.m",
+    ),
+    (
+        b"a/K,I,,+.m a/I,I,,+.m a/J,I,,a/K a/C,C,,a/J,a/I",
+        b"a/C class a/C.m",
+        b"a/K.m",
+    ),
+    (b"a/I,I,,+sm a/C,C,,a/I", b"a/C class a/C.m", b"NotFound"),
+    (b"a/I,I,,-.m a/C,C,,a/I", b"a/C class a/C.m", b"NotFound"),
+    // <init> is found in the named class alone
+    (
+        b"a/P,C,,+.<init> a/C,C,a/P",
+        b"a/C class a/C.<init>",
+        b"NotFound",
+    ),
+    (
+        b"a/P,C,,+.<init> a/C,C,a/P",
+        b"a/C class a/P.<init>",
+        b"a/P.<init>",
+    ),
+    // the kind of the named type
+    (
+        b"a/I,I,,+am a/C,C,,a/I,+.m",
+        b"a/C class a/I.m",
+        b"WrongKind",
+    ),
+    (
+        b"a/I,I,,+am a/C,C,,a/I,+.m",
+        b"a/C interface a/C.m",
+        b"WrongKind",
+    ),
+    // private, package-private and protected methods
+    (b"a/P,C,,-.m a/C,C", b"a/P class a/P.m", b"a/P.m"),
+    (b"a/P,C,,-.m a/C,C", b"a/C class a/P.m", b"NoAccess"),
+    (b"a/P,C,,~.m a/C,C", b"a/C class a/P.m", b"a/P.m"),
+    (b"a/P,C,,~.m b/C,C,a/P", b"b/C class a/P.m", b"NoAccess"),
+    (b"a/P,C,,#.m a/C,C", b"a/C class a/P.m", b"a/P.m"),
+    (b"a/P,C,,#.m b/C,C", b"b/C class a/P.m", b"NoAccess"),
+    (b"a/P,C,,#.m b/C,C,a/P", b"b/C class b/C.m", b"a/P.m"),
+    (
+        b"a/P,C,,#.m b/C,C,a/P b/D,C,a/P",
+        b"b/C class b/D.m",
+        b"NoAccess",
+    ),
+    (
+        b"a/P,C,,#sm b/C,C,a/P b/D,C,a/P",
+        b"b/C class b/D.m",
+        b"a/P.m",
+    ),
+    // arrays
+    (
+        b"a/C,C",
+        b"a/C class [I.toString()O",
+        b"java/lang/Object.toString()O",
+    ),
+    (
+        b"a/C,C",
+        b"a/C class [I.clone()O",
+        b"java/lang/Object.clone()O",
+    ),
+    (b"a/C,C", b"a/C class [I.finalize", b"NoAccess"),
+    // interfaces: their own methods, then Object's public ones, then those of superinterfaces
+    (
+        b"a/I,I,,+am,+.toString()O",
+        b"a/I interface a/I.toString()O",
+        b"a/I.toString()O",
+    ),
+    (
+        b"a/J,I,,+.toString()O a/I,I,,a/J",
+        b"a/I interface a/I.toString()O",
+        b"java/lang/Object.toString()O",
+    ),
+    (b"a/J,I,,+am a/I,I,,a/J", b"a/I interface a/I.m", b"a/J.m"),
+    (
+        b"a/J,I,,+sm a/I,I,,a/J",
+        b"a/I interface a/I.m",
+        b"NotFound",
+    ),
+    (b"a/I,I", b"a/I interface a/I.finalize", b"NotFound"),
+    (b"a/I,I,,-.m a/C,C", b"a/C interface a/I.m", b"NoAccess"),
+    (
+        b"java/util/List,I,,+aget(I)O java/util/ArrayList,C,,java/util/List,+.get(I)O lib/Base,C",
+        b"lib/Base interface java/util/List.get(I)O",
+        b"java/util/List.get(I)O",
+    ),
+];
+
+/// What a class finds by its reference, of a line of the class, the kind of the named type and the reference.
+fn resolve(alloc: Global, world: &World, line: &[u8]) -> Result<MethodId, ResolveRefusal> {
+    let mut words = line.split(is_space);
+    let from = Name::from_slice(alloc, words.next().unwrap_or(b""))?;
+    let kind = words.next().unwrap_or(b"");
+    let r = method_ref_of(alloc, words.next().unwrap_or(b""))?;
+    let Some(from) = world.class(&from) else {
+        return Err(ResolveRefusal::Memory);
+    };
+    if kind == b"interface".as_slice() {
+        return interface_method(alloc, world, from, &r);
+    }
+    method(alloc, world, from, &r)
+}
+
+#[test]
+fn resolves_methods(rt: HostRuntime) -> Result<(), Fail> {
+    let alloc = rt.alloc();
+    for (k, (line, call, wanted)) in METHODS.iter().enumerate() {
+        let world = build(alloc, line)?;
+        match resolve(alloc, &world, call) {
+            Ok(found) => {
+                assert!(rt; method_of(alloc, &world, wanted)? == Some(found), "row {k}");
+            }
+            Err(refusal) => assert!(rt; refusal_of(wanted) == Some(refusal), "row {k}"),
+        }
+    }
+    Ok(())
+}
+
+// ---- overriding
+
+/// Worlds, each with two methods and whether the first overrides the second.
+static OVERRIDING: [(&[u8], &[u8], bool); 10] = [
+    (b"a/P,C,,~.m b/Q,C,a/P,+.m", b"b/Q.m a/P.m", false),
+    (b"a/P,C,,~.m a/Q,C,a/P,+.m", b"a/Q.m a/P.m", true),
+    (
+        b"a/P,C,,~.m a/Q,C,a/P,+.m b/R,C,a/Q,+.m",
+        b"b/R.m a/P.m",
+        true,
+    ),
+    (b"a/P,C,,#.m b/Q,C,a/P,#.m", b"b/Q.m a/P.m", true),
+    (b"a/P,C,,+.m b/Q,C,a/P,+.m", b"a/P.m b/Q.m", false),
+    (b"a/P,C,,-.m a/Q,C,a/P,+.m", b"a/Q.m a/P.m", false),
+    (b"a/P,C,,-.m a/Q,C", b"a/P.m a/P.m", true),
+    (b"a/P,C,,+.m a/Q,C,a/P,+.m(I)O", b"a/Q.m(I)O a/P.m", false),
+    (b"a/P,C,,+.m a/Q,C,,+.m", b"a/Q.m a/P.m", false),
+    (b"a/P,C,,+sm a/Q,C,a/P,+sm", b"a/Q.m a/P.m", false),
+];
+
+/// Whether the first method of a line overrides the second.
+fn line_overrides(alloc: Global, world: &World, line: &[u8]) -> Result<Option<bool>, AllocError> {
+    let mut words = line.split(is_space);
+    let Some(a) = method_of(alloc, world, words.next().unwrap_or(b""))? else {
+        return Ok(None);
+    };
+    let Some(b) = method_of(alloc, world, words.next().unwrap_or(b""))? else {
+        return Ok(None);
+    };
+    Ok(Some(overrides(world, a, b)))
+}
+
+#[test]
+fn tells_overriding(rt: HostRuntime) -> Result<(), Fail> {
+    let alloc = rt.alloc();
+    for (k, (line, methods, wanted)) in OVERRIDING.iter().enumerate() {
+        let world = build(alloc, line)?;
+        assert!(rt;
+            line_overrides(alloc, &world, methods)? == Some(*wanted),
+            "row {k}"
+        );
+    }
+    Ok(())
+}
+
+// ---- selection
+
+/// Worlds, each with a call and what it runs: of a method on an object of a class, or by a reference that a
+/// class has.
+static SELECTED: [(&[u8], &[u8], &[u8]); 23] = [
+    // the nearest declaration, from the class up, that overrides the method
+    (
+        b"a/P,C,,+.m a/Q,C,a/P,+.m a/C,C,a/Q",
+        b"virtual a/C a/P.m",
+        b"a/Q.m",
+    ),
+    (
+        b"a/I,I,,+am a/P,C,,a/I a/C,C,a/P,+.m",
+        b"virtual a/C a/I.m",
+        b"a/C.m",
+    ),
+    (b"a/P,C,,~.m b/Q,C,a/P,+.m", b"virtual b/Q a/P.m", b"a/P.m"),
+    (b"a/P,C,,+.m a/C,C,a/P,-.m", b"virtual a/C a/P.m", b"a/P.m"),
+    (b"a/P,C,,+.m a/C,C,a/P,+sm", b"virtual a/C a/P.m", b"a/P.m"),
+    (b"a/P,C,,+.m a/C,C,a/P,+am", b"virtual a/C a/P.m", b"none"),
+    (
+        b"a/I,I,,+.m a/P,C,,+.m a/C,C,a/P,a/I",
+        b"virtual a/C a/P.m",
+        b"a/P.m",
+    ),
+    // then the single default among the maximally specific superinterface methods
+    (
+        b"a/I,I,,+.m a/J,I,,a/I,+.m a/C,C,,a/I,a/J",
+        b"virtual a/C a/J.m",
+        b"a/J.m",
+    ),
+    (
+        b"a/I,I,,+.m a/J,I,,+.m a/C,C,,a/J,a/I",
+        b"virtual a/C a/J.m",
+        b"none",
+    ),
+    (
+        b"a/I,I,,+am a/J,I,,+.m a/C,C,,a/I,a/J",
+        b"virtual a/C a/J.m",
+        b"a/J.m",
+    ),
+    // on an interface, by name and descriptor alone
+    (
+        b"a/I,I,,+.m a/P,C,,+.m a/C,C,a/P,a/I",
+        b"interface a/C a/I.m",
+        b"a/P.m",
+    ),
+    (
+        b"a/I,I,,+.m a/P,C,,+sm a/C,C,a/P,a/I",
+        b"interface a/C a/I.m",
+        b"a/I.m",
+    ),
+    (
+        b"a/I,I,,+.m a/J,I,,a/I,+am a/C,C,,a/J",
+        b"interface a/C a/I.m",
+        b"none",
+    ),
+    (
+        b"a/I,I,,+.m a/J,I,,+.m a/C,C,,a/J,a/I",
+        b"interface a/C a/I.m",
+        b"none",
+    ),
+    (
+        b"a/I,I,,+.m a/P,C,,+.m(I)O a/C,C,a/P,a/I",
+        b"interface a/C a/I.m",
+        b"a/I.m",
+    ),
+    (
+        b"java/util/List,I,,+aget(I)O java/util/ArrayList,C,,java/util/List,+.get(I)O",
+        b"interface java/util/ArrayList java/util/List.get(I)O",
+        b"java/util/ArrayList.get(I)O",
+    ),
+    // invokespecial: from the direct superclass for a method of a superclass, or else from the named type
+    (
+        b"lib/Base,C,,+.<init>,+.m",
+        b"special lib/Base java/lang/Object.<init>",
+        b"java/lang/Object.<init>",
+    ),
+    (
+        b"a/P,C,,+.m a/Q,C,a/P,+.m a/C,C,a/Q,+.m",
+        b"special a/C a/P.m",
+        b"a/Q.m",
+    ),
+    (
+        b"a/P,C,,+.m a/Q,C,a/P,+sm a/C,C,a/Q,+.m",
+        b"special a/C a/P.m",
+        b"a/P.m",
+    ),
+    (
+        b"a/P,C,,+.<init> a/Q,C,a/P,+.<init> a/C,C,a/Q",
+        b"special a/C a/P.<init>",
+        b"a/P.<init>",
+    ),
+    (b"a/C,C,,-.m", b"special a/C a/C.m", b"a/C.m"),
+    (b"a/I,I,,+.m a/C,C,,a/I,+.m", b"special a/C a/I.m", b"a/I.m"),
+    (b"a/P,C,,+am a/C,C,a/P,+.m", b"special a/C a/P.m", b"none"),
+];
+
+/// What a call runs, of a line of its kind, the class and the method, by which the reference goes too.
+fn select(alloc: Global, world: &World, line: &[u8]) -> Result<Option<MethodId>, AllocError> {
+    let mut words = line.split(is_space);
+    let kind = words.next().unwrap_or(b"");
+    let class = Name::from_slice(alloc, words.next().unwrap_or(b""))?;
+    let text = words.next().unwrap_or(b"");
+    let r = method_ref_of(alloc, text)?;
+    let Some(c) = world.class(&class) else {
+        return Ok(None);
+    };
+    let Some(m) = method_of(alloc, world, text)? else {
+        return Ok(None);
+    };
+    match kind {
+        b"virtual" => select_virtual(alloc, world, c, m),
+        b"interface" => select_interface(alloc, world, c, m),
+        _ => select_special(alloc, world, c, &r, m),
+    }
+}
+
+#[test]
+fn selects_methods(rt: HostRuntime) -> Result<(), Fail> {
+    let alloc = rt.alloc();
+    for (k, (line, call, wanted)) in SELECTED.iter().enumerate() {
+        let world = build(alloc, line)?;
+        let selected = select(alloc, &world, call)?;
+        assert!(rt; selected == method_of(alloc, &world, wanted)?, "row {k}");
+        assert!(rt;
+            selected.is_some() == (*wanted != b"none".as_slice()),
+            "row {k}"
+        );
+    }
+    Ok(())
+}
+
+// ---- resolution of fields
+
+/// Worlds, each with a class, a field that it has a reference to, and the class in which it is found.
+static FIELDS: [(&[u8], &[u8], &[u8]); 9] = [
+    // the class, then its superinterfaces, then its superclass
+    (
+        b"a/P,C,,+.x:a/T a/I,I,,+sx:a/T a/C,C,a/P,a/I,+.x:a/T",
+        b"a/C a/C.x:a/T",
+        b"a/C",
+    ),
+    (
+        b"a/P,C,,+.x:a/T a/I,I,,+sx:a/T a/C,C,a/P,a/I",
+        b"a/C a/C.x:a/T",
+        b"a/I",
+    ),
+    (
+        b"a/P,C,,+.x:a/T a/I,I a/C,C,a/P,a/I",
+        b"a/C a/C.x:a/T",
+        b"a/P",
+    ),
+    (b"a/C,C,,+.x:a/T", b"a/C a/C.x:a/S", b"NotFound"),
+    (b"a/P,C,,-.x:a/T a/C,C", b"a/C a/P.x:a/T", b"NoAccess"),
+    (b"a/P,C,,~.x:a/T b/C,C,a/P", b"b/C a/P.x:a/T", b"NoAccess"),
+    (b"a/P,C,,#.x:a/T b/C,C,a/P", b"b/C b/C.x:a/T", b"a/P"),
+    (
+        b"a/P,C,,#.x:a/T b/C,C,a/P b/D,C,a/P",
+        b"b/C b/D.x:a/T",
+        b"NoAccess",
+    ),
+    (
+        b"java/io/PrintStream,C java/lang/System,C,,+sout:java/io/PrintStream lib/Base,C",
+        b"lib/Base java/lang/System.out:java/io/PrintStream",
+        b"java/lang/System",
+    ),
+];
+
+/// A reference to a field, of a text such as `a/C.x:a/T`.
+fn field_ref_of(alloc: Global, text: &[u8]) -> Result<FieldRef, AllocError> {
+    let mut parts = text.split(is_dot);
+    let class = Name::from_slice(alloc, parts.next().unwrap_or(b""))?;
+    let mut words = parts.next().unwrap_or(b"").split(is_colon);
+    let name = Name::from_slice(alloc, words.next().unwrap_or(b""))?;
+    let type_name = Name::from_slice(alloc, words.next().unwrap_or(b""))?;
+    let desc = Desc::Ref(RefType::Class(type_name));
+    Ok(FieldRef { class, name, desc })
+}
+
+/// Whether what the class of a line finds by its reference is wanted: the field of the class, or the refusal.
+fn finds(alloc: Global, world: &World, line: &[u8], wanted: &[u8]) -> Result<bool, AllocError> {
+    let mut words = line.split(is_space);
+    let from = Name::from_slice(alloc, words.next().unwrap_or(b""))?;
+    let r = field_ref_of(alloc, words.next().unwrap_or(b""))?;
+    let class = world.class(&Name::from_slice(alloc, wanted)?);
+    let Some(from) = world.class(&from) else {
+        return Ok(false);
+    };
+    match (field(alloc, world, from, &r), class) {
+        (Ok(found), Some(c)) => Ok(declared_field(world, c, &r.name, &r.desc) == Some(found)),
+        (Err(refusal), None) => Ok(refusal_of(wanted) == Some(refusal)),
+        _ => Ok(false),
+    }
+}
+
+#[test]
+fn resolves_fields(rt: HostRuntime) -> Result<(), Fail> {
+    let alloc = rt.alloc();
+    for (k, (line, call, wanted)) in FIELDS.iter().enumerate() {
+        let world = build(alloc, line)?;
+        assert!(rt; finds(alloc, &world, call, wanted)?, "row {k}");
+    }
+    Ok(())
+}
