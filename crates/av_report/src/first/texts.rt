@@ -43,11 +43,7 @@ pub fn method_text(
 }
 
 /// The text of a field, none where it isn't one of the class. Only memory can be wanting.
-fn field_text(
-    alloc: Global,
-    class: &ObjectClass,
-    id: FieldId,
-) -> Result<Option<Name>, AllocError>
+fn field_text(alloc: Global, class: &ObjectClass, id: FieldId) -> Result<Option<Name>, AllocError>
     ensures { IfOk result (IsTextOf (HasFieldText class.now id)) }
 {
     if id.class.number != 0 {
