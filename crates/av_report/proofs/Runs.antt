@@ -4,23 +4,21 @@ use Rattle.std.specs.Prelude.{codes, is_some}
 use Rattle.std.specs.List.{slice_get}
 use Rattle.std.specs.Fmt.{decimal}
 use Rattle.std.proofs.lemmas.Bool.{false≢true}
-use Rattle.jv_types.specs.declared.label.Label.{Label}
 use Rattle.jv_types.specs.declared.place.Place.{Place}
-use Rattle.jv_types.specs.declared.place.Place.TheVariants as place
 use Rattle.jv_types.specs.declared.fact.Fact.{Fact}
 use Rattle.jv_types.specs.declared.fact.Fact.TheVariants.{Edge, Pt}
 use Rattle.jv_form.specs.declared.object_class.ObjectClass.{ObjectClass}
 use Rattle.jv_form.specs.Kinds.{IsKindSafe}
-use Rattle.av_model.specs.First.Machine.{Cell, HeapObject, Frame, State, Event, Origin, Library, Site, Target, Own, ObjectInit, MethodCall, IsRun}
-use Rattle.av_solve.specs.First.Names.{own_field, new_at, Slot, InLocal, OnStack, slot_place, pc_at}
-use Rattle.av_solve.specs.First.Rules.{Has, IsClosed, IsLeast}
+use Rattle.av_model.specs.First.Machine.{Cell, HeapObject, Frame, State, Origin, Library, Site, Target, Own, ObjectInit, MethodCall}
+use Rattle.av_solve.specs.First.Names.{new_at, Slot, InLocal, OnStack, slot_place, pc_at}
+use Rattle.av_solve.specs.First.Rules.{Has, IsClosed}
 use Rattle.av_solve.specs.First.Covered.{origin_of, target_of, call_fact, CallsCovered, CellCovered, FrameCovered, IsCovered}
 use Rattle.av_solve.specs.First.Closing.{IsLeastList}
 use Rattle.av_solve.proofs.Runs.{covers}
 use Rattle.av_report.specs.First.Lines.{HasLine, HasPlaceText, AreLines}
 use Rattle.av_report.specs.First.Covered.{IsTold, CallsHaveLines, CellHasLine, FrameHasLines, HeldObjectsHaveLines, LinesCoverAllRuns, AreClassLines}
 use Rattle.av_report.proofs.Adding.{AreLines-same}
-use Rattle.av_report.proofs.Told.{told, has_method, has_label, has_place, both_first, both_second, told_closed, method_text_of, label_text_of, slot_text_of, static_text_of, object_field_text_of}
+use Rattle.av_report.proofs.Told.{told, has_place, both_first, both_second, told_closed, method_text_of, label_text_of, slot_text_of, static_text_of, object_field_text_of}
 
 -- ---- the lines of facts that are told of
 

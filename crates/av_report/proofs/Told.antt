@@ -1,6 +1,6 @@
 -- The facts that are told of by a line, and those that need none, as a set that is closed: what the facts of
 -- a kind-safe class name is there.
-use Rattle.std.proofs.Common.{◌≡◌, ℕ, suc, ◌+◌, ◌++◌, ◌<◌, ◌≤◌, ◌⊎◌, Bool, true, false, List, length, get_or, Option, Some, None, refl, sym, ap, ◌∙◌, ⊎_elim, arith}
+use Rattle.std.proofs.Common.{◌≡◌, ℕ, suc, ◌+◌, ◌++◌, ◌<◌, ◌≤◌, Bool, true, false, List, length, get_or, Option, Some, None, refl, ap, ⊎_elim, arith}
 use Rattle.std.specs.Prelude.{◌==◌, if◌then◌else◌, is_some, codes}
 use Rattle.std.specs.List.{slice_get}
 use Rattle.std.specs.Fmt.{decimal}
@@ -19,7 +19,6 @@ use Rattle.jv_form.specs.declared.object_class.Kind.{Kind}
 use Rattle.jv_form.specs.declared.object_class.Instruction.{Instruction}
 use Rattle.jv_form.specs.declared.object_class.Instruction.TheVariants as op
 use Rattle.jv_form.specs.declared.object_class.Placed.{Placed}
-use Rattle.jv_form.specs.declared.object_class.Field.{Field}
 use Rattle.jv_form.specs.declared.object_class.Method.{Method}
 use Rattle.jv_form.specs.declared.object_class.ObjectClass.{ObjectClass}
 use Rattle.jv_form.specs.Kinds as kinds

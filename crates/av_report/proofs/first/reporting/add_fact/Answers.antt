@@ -1,4 +1,4 @@
-use Rattle.std.proofs.Common.{◌≡◌, Some}
+use Rattle.std.proofs.Common.{Some}
 use Rattle.std.proofs.lemmas.Result.{on_ok_weaker}
 use Rattle.av_report.specs.First.Lines.{HasLine}
 use Rattle.av_report.specs.First.Adding.{IsTextOf}
