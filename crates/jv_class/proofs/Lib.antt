@@ -12,4 +12,3 @@ pub mod KeptLemmas
 pub mod NumberedTexts
 pub mod DistinctMembers
 pub mod WholeTexts
-pub mod WriteLemmas
