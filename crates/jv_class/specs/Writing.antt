@@ -9,7 +9,7 @@ use Rattle.jv_class.specs.declared.class_file.Member.{Member}
 use Rattle.jv_class.specs.declared.class_file.ClassFile.{ClassFile}
 use Rattle.jv_class.specs.Numbers.{u2, u4}
 use Rattle.jv_class.specs.Counted.{counted_text}
-use Rattle.jv_class.specs.ClassTexts.{class_text, HasFewItems, IsFewMember, HasFewParts, HasShortParts}
+use Rattle.jv_class.specs.ClassTexts.{class_text, HasFewItems, HasFewParts, HasShortParts}
 
 -- the counts and the lengths of an attribute fit
 abbrev pub AttrFits : Attr CodeAttr → Type 0

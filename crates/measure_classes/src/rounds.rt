@@ -44,7 +44,7 @@ impl Tally {
 }
 
 /// Reads a class file, and writes it again where asked.
-fn outcome(alloc: Global, work: Work, bytes: &[u8]) -> Result<Outcome> {
+fn take_one(alloc: Global, work: Work, bytes: &[u8]) -> Result<Outcome> {
     let class = match read_class(alloc, bytes) {
         Ok(class) => class,
         Err(BadClass::NotClass) => return Ok(Outcome::Refused),
@@ -80,7 +80,7 @@ pub fn take_files(
     tally: &mut Tally,
 ) -> Result<()> {
     for file in files {
-        let outcome = outcome(rt.alloc(), work, &file.bytes)?;
+        let outcome = take_one(rt.alloc(), work, &file.bytes)?;
         tally.files = tally.files.saturating_add(1);
         tally.bytes = tally.bytes.saturating_add(file.bytes.len() as u64);
         if outcome != Outcome::Same {
