@@ -6,7 +6,8 @@ use Rattle.std.proofs.lemmas.List.{append-nil}
 use Rattle.jv_pool.specs.declared.item.PoolItem.{PoolItem}
 use Rattle.jv_class.specs.declared.class_file.Member.{Member}
 use Rattle.jv_class.specs.declared.class_file.ClassFile.{ClassFile}
-use Rattle.jv_class.specs.ClassTexts.{IsField, IsMethod, KeepsRules, ClassText}
+use Rattle.jv_class.specs.ClassTexts.{IsField, IsMethod, KeepsRules, IsClass, ClassText}
+use Rattle.jv_class.specs.Writing.{IsWritten}
 use Rattle.jv_class.specs.LayoutReading.{IsLaidOut}
 use Rattle.jv_class.specs.MemberPairs.{HasTexts, HaveTexts}
 use Rattle.jv_class.proofs.AllLemmas.{all_from}
@@ -17,6 +18,9 @@ laid c bytes h = record { parts = h.is_class.parts; few_items = h.few_items; few
 
 pub ruled : (c : ClassFile) (bytes : List ℕ) → IsLaidOut c bytes → KeepsRules c → ClassText c bytes
 ruled c bytes h rules = record { is_class = record { parts = h.parts; rules = rules }; few_items = h.few_items; few_parts = h.few_parts; short_parts = h.short_parts; spelled = h.spelled }
+
+pub written : (c : ClassFile) (bytes : List ℕ) → IsClass c → IsWritten c bytes → ClassText c bytes
+written c bytes is h = record { is_class = is; few_items = h.few_items; few_parts = h.few_parts; short_parts = h.short_parts; spelled = h.spelled }
 
 -- no rules, so no class
 pub unruled : (c : ClassFile) (bytes : List ℕ) → IsLaidOut c bytes → (KeepsRules c → ⊥) → (d : ClassFile) → ClassText d bytes → ⊥

@@ -9,3 +9,4 @@ pub mod PoolTexts
 pub mod MemberPairs
 pub mod RuleParts
 pub mod Shapes
+pub mod Writing

@@ -18,7 +18,7 @@ use jv_types::Seq;
 use std::alloc::Global;
 
 /// The number that each class file begins with (JVMS 4.1).
-const MAGIC: u32 = 0xCAFE_BABE;
+pub const MAGIC: u32 = 0xCAFE_BABE;
 
 /// The versions and the pool of a class file, with which the rest is read.
 #[derive(Debug, Drop)]

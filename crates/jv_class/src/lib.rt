@@ -4,6 +4,7 @@
 mod attributes;
 mod class_file;
 mod codes;
+mod counts;
 mod distinct;
 mod fault;
 mod indices;
@@ -19,11 +20,13 @@ mod shaping;
 mod text_key;
 mod text_numbers;
 mod texts;
+mod write;
 
 pub use class_file::{ClassFile, Member};
-pub use fault::BadClass;
+pub use fault::{BadClass, WriteRefusal};
 pub use read::read_class;
 pub use shaping::shape;
+pub use write::write_class;
 
 #[cfg(test)]
 mod tests;
