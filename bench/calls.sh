@@ -1,7 +1,7 @@
 #!/usr/bin/env bash
 # Times `averroes calls` on classes of many methods, on n, 2n and 4n of them, beside `javap -p -c` on the
 # same file where a JDK is installed. Prints a row a file: family, n, bytes, lines that were printed,
-# seconds and peak memory of each.
+# processor seconds and peak memory of each.
 set -eu
 top=$(cd "$(dirname "$0")/.." && pwd)
 work=$(mktemp -d)
@@ -10,12 +10,12 @@ trap 'rm -rf "$work"' EXIT
 program=$top/crates/averroes/out/averroes
 
 measure() {
-  # seconds and peak kilobytes of a command whose output goes nowhere
+  # processor seconds and peak kilobytes of a command whose output goes nowhere
   python3 - "$@" <<'PY'
-import resource, subprocess, sys, time
-begin = time.monotonic()
+import resource, subprocess, sys
 subprocess.run(sys.argv[1:], stdout=subprocess.DEVNULL, stderr=subprocess.DEVNULL)
-print("%.2f s %d KiB" % (time.monotonic() - begin, resource.getrusage(resource.RUSAGE_CHILDREN).ru_maxrss))
+used = resource.getrusage(resource.RUSAGE_CHILDREN)
+print("%.2f s %d KiB" % (used.ru_utime + used.ru_stime, used.ru_maxrss))
 PY
 }
 

@@ -3,5 +3,5 @@ pub mod ShownText
 pub mod Concluding
 pub mod Exactness
 pub mod Requests
-pub mod Mains
+pub mod MainMethods
 pub mod Graphs
