@@ -1,6 +1,8 @@
 ghost use Rattle.av_report.specs.First.Covered.{LinesCoverRuns};
 
+mod joining;
 mod reporting;
+mod texts;
 
 pub use reporting::{class_lines, fact_lines};
 
@@ -9,3 +11,6 @@ pub use reporting::{class_lines, fact_lines};
 pub fn lines_cover_runs()
     ensures { LinesCoverRuns }
 {}
+
+#[cfg(test)]
+mod tests;

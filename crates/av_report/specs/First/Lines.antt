@@ -13,7 +13,6 @@ use Rattle.jv_types.specs.declared.label.Label.{Label}
 use Rattle.jv_types.specs.declared.label.Label.TheVariants as label
 use Rattle.jv_types.specs.declared.place.Place.{Place}
 use Rattle.jv_types.specs.declared.place.Place.TheVariants as place
-use Rattle.jv_types.specs.declared.fact.CallFrom.{CallFrom}
 use Rattle.jv_types.specs.declared.fact.CallFrom.TheVariants as from
 use Rattle.jv_types.specs.declared.fact.Fact.{Fact}
 use Rattle.jv_types.specs.declared.fact.Fact.TheVariants.{Reach, Edge, Pt}
@@ -66,18 +65,17 @@ HasPlaceText class (place.Thr method) text = ⊥
 abbrev pub HasTargetText : ObjectClass → MethodId → List ℕ → Type 0
 HasTargetText class to text = HasMethodText class to text ⊎ ((to ≡ object_init) × (text ≡ codes "library"))
 
--- a call, at least one of whose ends is in the class: from the library, or from an instruction
-abbrev pub HasEdgeText : ObjectClass → CallFrom → MethodId → List ℕ → Type 0
-HasEdgeText class from.Root to text = (t : List ℕ) × HasMethodText class to t × (text ≡ codes "library " ++ t)
-HasEdgeText class (from.Site method pc) to text = (s : List ℕ) × (t : List ℕ) × HasSiteText class method pc s × HasTargetText class to t × (text ≡ s ++ codes " " ++ t)
-
 -- ---- lines
 
--- the line of a fact: of a call, and of an object at a place. That a method is entered has no line of its own
+-- the line of a fact: of a call, at least one of whose ends is in the class, and of an object at a place.
+-- That a method is entered has no line of its own
 abbrev pub HasLine : ObjectClass → Fact → List ℕ → Type 0
 HasLine class (Reach method) line = ⊥
-HasLine class (Edge origin to) line = (e : List ℕ) × HasEdgeText class origin to e × (line ≡ codes "edge " ++ e)
-HasLine class (Pt at made) line = (p : List ℕ) × (l : List ℕ) × HasPlaceText class at p × HasLabelText class made l × (line ≡ codes "pt " ++ p ++ codes " " ++ l)
+HasLine class (Edge from.Root to) line = (t : List ℕ) × HasMethodText class to t × (line ≡ codes "edge library " ++ t)
+HasLine class (Edge (from.Site method pc) to) line =
+    (s : List ℕ) × (t : List ℕ) × HasSiteText class method pc s × HasTargetText class to t × (line ≡ codes "edge " ++ s ++ codes " " ++ t)
+HasLine class (Pt at made) line =
+    (p : List ℕ) × (l : List ℕ) × HasPlaceText class at p × HasLabelText class made l × (line ≡ codes "pt " ++ p ++ codes " " ++ l)
 
 -- a line of one of these facts
 abbrev pub IsLine : ObjectClass → (Fact → Type 0) → List ℕ → Type 0
