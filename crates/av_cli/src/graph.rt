@@ -55,7 +55,8 @@ fn main_class(alloc: Global, name: &[u8], bytes: &[u8]) -> Result<ObjectClass, G
     if bytes.len() > FILE_LIMIT {
         return Err(GraphError::TooLarge);
     }
-    if !is_class_file(alloc, bytes)? {
+    let is_class = is_class_file(alloc, bytes)?;
+    if !is_class {
         return Err(GraphError::NotClass);
     }
     let class = match read_object_class(alloc, name, bytes) {
