@@ -1,5 +1,4 @@
 pub mod Texts
-pub mod Members
 pub mod Adding
 pub mod Told
 pub mod Runs

@@ -25,7 +25,8 @@ use Rattle.jv_form.specs.declared.object_class.ObjectClass.{ObjectClass}
 use Rattle.jv_form.specs.Kinds as kinds
 use Rattle.jv_form.specs.Kinds.{Effect, IsWalk, IsKindSafe}
 use Rattle.av_model.specs.First.Machine.{InstructionAt, Invokes}
-use Rattle.av_solve.specs.First.Names.{own, own_field, new_at, Slot, InLocal, OnStack, slot_place}
+use Rattle.av_solve.specs.First.Depths.{depth_at}
+use Rattle.av_solve.specs.First.Names.{own, own_field, new_at, Slot, InLocal, OnStack, slot_place, pc_at}
 use Rattle.av_solve.specs.First.Rules.{Has, IsReturn, IsClosed}
 use Rattle.av_solve.proofs.Returning.{sends_invokes}
 use Rattle.av_report.specs.First.Lines.{member_text, HasMethodText, HasFieldText, HasLabelText, HasPlaceText}
@@ -120,11 +121,17 @@ invokes_leads (op.Return result) to is return = is
 invokes_leads _ to is return = return
 
 -- the fields that putfield and putstatic name
-named_field : (class : ObjectClass) (field : ℕ) (takes gives : List Kind) → Effect class (op.PutField field) takes gives → is_some (slice_get class.fields field) ≡ true
-named_field class field takes gives effect = some_is _ effect.0 effect.1.0
+field_there : (class : ObjectClass) (field : ℕ) (takes gives : List Kind) → Effect class (op.PutField field) takes gives → is_some (slice_get class.fields field) ≡ true
+field_there class field takes gives effect = some_is _ effect.0 effect.1.0
 
-named_static : (class : ObjectClass) (field : ℕ) (takes gives : List Kind) → Effect class (op.PutStatic field) takes gives → is_some (slice_get class.fields field) ≡ true
-named_static class field takes gives effect = some_is _ effect.0 effect.1.0
+static_there : (class : ObjectClass) (field : ℕ) (takes gives : List Kind) → Effect class (op.PutStatic field) takes gives → is_some (slice_get class.fields field) ≡ true
+static_there class field takes gives effect = some_is _ effect.0 effect.1.0
+
+named_field : (class : ObjectClass) (i : Instruction) (field : ℕ) (takes gives : List Kind) → i ≡ op.PutField field → Effect class i takes gives → is_some (slice_get class.fields field) ≡ true
+named_field class i field takes gives is effect = field_there class field takes gives (rw is at effect)
+
+named_static : (class : ObjectClass) (i : Instruction) (field : ℕ) (takes gives : List Kind) → i ≡ op.PutStatic field → Effect class i takes gives → is_some (slice_get class.fields field) ≡ true
+named_static class i field takes gives is effect = static_there class field takes gives (rw is at effect)
 
 -- ---- the set is closed
 
@@ -159,32 +166,32 @@ module _ (class : ObjectClass) (safe : IsKindSafe class) where
   told_closed = record {
     entry = λ m main. some_is _ main.0 main.1;
     reach = λ from m h. refl;
-    move = λ m i p from to l here moves h. in_slot m _ to l (here_is m i p here) (made_at (slot_place m p.pc from) l h);
-    allocate = λ m i p here is h. in_slot m _ (OnStack _) (new_at m p.pc) (here_is m i p here) (here_is m i p here);
-    get_field = λ m i p field top l v here is depth h h_field. in_slot m _ (OnStack top) v (here_is m i p here) (made_at (place.Field l (own_field field)) v h_field);
+    move = λ m i p from to l here moves h. in_slot m (pc_at class m (suc i)) to l (here_is m i p here) (made_at (slot_place m p.pc from) l h);
+    allocate = λ m i p here is h. in_slot m (pc_at class m (suc i)) (OnStack (depth_at class m i)) (new_at m p.pc) (here_is m i p here) (here_is m i p here);
+    get_field = λ m i p field top l v here is depth h h_field. in_slot m (pc_at class m (suc i)) (OnStack top) v (here_is m i p here) (made_at (place.Field l (own_field field)) v h_field);
     put_field = λ m i p field below l v here is depth h h_value.
         let effect = effect_at class safe m i p here (λ r. rw is at r) in
-        let there : is_some (slice_get class.fields field) ≡ true = named_field class field effect.0 effect.1 (rw is at effect.2) in
+        let there : is_some (slice_get class.fields field) ≡ true = named_field class p.instruction field effect.0 effect.1 is effect.2 in
         both_is (has_place class (place.Field l (own_field field))) (has_label class v)
         (both_is (has_label class l) (is_some (slice_get class.fields field)) (made_at (slot_place m p.pc (OnStack below)) l h) there)
         (made_at (slot_place m p.pc (OnStack (below + 1))) v h_value);
-    get_static = λ m i p field v here is reached h. in_slot m _ (OnStack _) v (here_is m i p here) (made_at (place.Static (own_field field)) v h);
+    get_static = λ m i p field v here is reached h. in_slot m (pc_at class m (suc i)) (OnStack (depth_at class m i)) v (here_is m i p here) (made_at (place.Static (own_field field)) v h);
     put_static = λ m i p field top v here is depth h.
         let effect = effect_at class safe m i p here (λ r. rw is at r) in
-        let there : is_some (slice_get class.fields field) ≡ true = named_static class field effect.0 effect.1 (rw is at effect.2) in
+        let there : is_some (slice_get class.fields field) ≡ true = named_static class p.instruction field effect.0 effect.1 is effect.2 in
         both_is (is_some (slice_get class.fields field)) (has_label class v) there (made_at (slot_place m p.pc (OnStack top)) v h);
     dispatch_static = λ m i p to here is reached. called_by m p.pc to (here_is m i p here) (called_is m i p to here (rw is refl));
     dispatch = λ m i p to receiver l here sends depth h.
         let there = called_is m i p to here (sends_invokes p.instruction to sends) in
-        (called_by m p.pc to (here_is m i p here) there, in_slot to _ (InLocal 0) l there (made_at (slot_place m p.pc (OnStack receiver)) l h));
+        (called_by m p.pc to (here_is m i p here) there, in_slot to (pc_at class to 0) (InLocal 0) l there (made_at (slot_place m p.pc (OnStack receiver)) l h));
     argument = λ m i p to base word l here invokes depth late early edge h.
-        in_slot to _ (InLocal word) l (called_from m p.pc to edge) (made_at (slot_place m p.pc (OnStack (base + word))) l h);
+        in_slot to (pc_at class to 0) (InLocal word) l (called_from m p.pc to edge) (made_at (slot_place m p.pc (OnStack (base + word))) l h);
     return_from = λ m i p top l here is depth h. both_is true (has_label class l) refl (made_at (slot_place m p.pc (OnStack top)) l h);
-    return_to = λ m i p to base l here invokes gives depth edge h. in_slot m _ (OnStack base) l (here_is m i p here) (made_at (place.Ret (own to)) l h);
+    return_to = λ m i p to base l here invokes gives depth edge h. in_slot m (pc_at class m (suc i)) (OnStack base) l (here_is m i p here) (made_at (place.Ret (own to)) l h);
     initialize = λ m i p top l here is depth h. both_is (is_some (slice_get class.methods m)) true (here_is m i p here) refl;
     finalize = λ m i p top l to here is depth final h.
         let there = some_is _ final.0 final.1 in
-        (there, in_slot to _ (InLocal 0) l there (made_at (slot_place m p.pc (OnStack top)) l h));
+        (there, in_slot to (pc_at class to 0) (InLocal 0) l there (made_at (slot_place m p.pc (OnStack top)) l h));
   }
 
 -- ---- the texts of what is there
