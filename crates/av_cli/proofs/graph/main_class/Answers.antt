@@ -1,4 +1,4 @@
-use Rattle.std.proofs.Common.{◌↔◌, ◌≡◌, Bool, true, false, IsTrue, refl, arith}
+use Rattle.std.proofs.Common.{◌↔◌, ◌≡◌, true, false, IsTrue, refl, arith}
 use Rattle.av_cli.proofs.Graphs.{outside_form, lacks_main}
 use Rattle.av_cli.proofs.graph.main_class.Goals as goal
 
