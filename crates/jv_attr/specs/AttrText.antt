@@ -11,7 +11,7 @@ use Rattle.jv_attr.specs.declared.attr.Attr.{Attr}
 use Rattle.jv_attr.specs.declared.attr.AttrBody.{AttrBody}
 use Rattle.jv_attr.specs.declared.attr.AttrBody.TheVariants.{Code, Maps, Raw}
 use Rattle.jv_attr.specs.declared.attr.CodeAttr.{CodeAttr}
-use Rattle.jv_attr.specs.declared.attr.NoCode.{NoCode}
+use Rattle.std.specs.declared.convert.Infallible.{Infallible as NoCode}
 use Rattle.jv_attr.specs.declared.owner.Owner as owners
 use Rattle.jv_attr.specs.declared.owner.Owner.TheVariants as owner
 use Rattle.jv_attr.specs.FrameText.{IsFrame, frames_text, AreFewFrames}

@@ -8,7 +8,7 @@ use Rattle.jv_attr.specs.declared.attr.Attr.{Attr}
 use Rattle.jv_attr.specs.declared.attr.AttrBody.{AttrBody}
 use Rattle.jv_attr.specs.declared.attr.AttrBody.TheVariants.{Code, Maps, Raw}
 use Rattle.jv_attr.specs.declared.attr.CodeAttr.{CodeAttr}
-use Rattle.jv_attr.specs.declared.attr.NoCode.{NoCode}
+use Rattle.std.specs.declared.convert.Infallible.{Infallible as NoCode}
 use Rattle.jv_attr.specs.FrameText.{group_of}
 
 abbrev pub has_few_parts : Option FrameGroup → MapFrame → Bool

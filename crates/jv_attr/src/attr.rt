@@ -1,5 +1,6 @@
 use crate::frame::MapFrame;
 use jv_types::{RawHandler, Seq};
+use std::convert::Infallible;
 
 /// An attribute (JVMS 4.7): the index of its name, and what stands in it. `C` is what is kept of a
 /// `Code`: an attribute inside a `Code` has none.
@@ -31,5 +32,4 @@ pub struct CodeAttr {
 }
 
 /// No value at all: the place of a `Code` in an attribute that can't have one.
-#[derive(Clone, Copy, Debug, PartialEq, Eq, PartialOrd, Ord)]
-pub enum NoCode {}
+pub type NoCode = Infallible;
