@@ -1,11 +1,13 @@
 #!/usr/bin/env python3
-"""Writes a class of many static methods over ints, in the form that `averroes calls` reads.
+"""Writes a class of many methods, in the form that `averroes calls` reads.
 
 make_class.py FAMILY N FILE
 
 FAMILY  chain  main calls m0, and each method the next one
         fan    a tree in which each method calls up to a hundred others
         wide   N kilobytes of code, in methods of 64,000 bytes that call one another
+        flow   N methods, each of which makes an object, puts the one it was handed into its field, and
+               hands it to the next method, which reads it back out of that field
 The class is named `Big`, and FILE should be `Big.class`.
 """
 import struct
@@ -41,6 +43,13 @@ def method_item(class_name, name, desc):
     return item(("method", class_name, name, desc), b"\x0a" + struct.pack(">HH", class_at, pair))
 
 
+def field_item(class_name, name, desc):
+    class_at = class_item(class_name)
+    name_at, desc_at = utf8(name), utf8(desc)
+    pair = item(("pair", name, desc), b"\x0c" + struct.pack(">HH", name_at, desc_at))
+    return item(("field", class_name, name, desc), b"\x09" + struct.pack(">HH", class_at, pair))
+
+
 def call(name):
     return b"\xb8" + struct.pack(">H", method_item("Big", name, "()V"))
 
@@ -51,6 +60,20 @@ def method(name, desc, access, code):
     return struct.pack(">HHHH", access, utf8(name), utf8(desc), 1) + attribute
 
 
+def named(op, index):
+    return bytes([op]) + struct.pack(">H", index)
+
+
+def link(name):
+    """A method that makes an object, links it to the parameter, reads the link, and calls the method of this name."""
+    make = named(187, class_item("Big")) + b"\x59" + named(183, method_item("Big", "<init>", "()V")) + b"\x4c"
+    put = b"\x2b\x2a" + named(181, field_item("Big", "last", "LBig;"))
+    get = b"\x2b" + named(180, field_item("Big", "last", "LBig;")) + b"\x57"
+    hand = b"\x2b" + named(184, method_item("Big", name, "(LBig;)V")) if name else b""
+    return make + put + get + hand + end
+
+
+fields = []
 methods = []
 main_desc = "([Ljava/lang/String;)V"
 end = b"\xb1"
@@ -69,12 +92,19 @@ elif family == "wide":
     methods.append(method("main", main_desc, 9, call("m0") + end))
     for i in range(count):
         methods.append(method("m%d" % i, "()V", 8, call("m%d" % ((i + 1) % count)) + body + end))
+elif family == "flow":
+    fields.append(struct.pack(">HHHH", 0, utf8("last"), utf8("LBig;"), 0))
+    start = b"\x2a" + named(183, method_item("java/lang/Object", "<init>", "()V"))
+    methods.append(method("<init>", "()V", 0, start + end))
+    methods.append(method("main", main_desc, 9, b"\x01" + named(184, method_item("Big", "m0", "(LBig;)V")) + end))
+    for i in range(size):
+        methods.append(method("m%d" % i, "(LBig;)V", 8, link("m%d" % (i + 1) if i + 1 < size else "")))
 else:
-    sys.exit("FAMILY is chain, fan or wide")
+    sys.exit("FAMILY is chain, fan, wide or flow")
 
 this_class, super_class = class_item("Big"), class_item("java/lang/Object")
 out = b"\xca\xfe\xba\xbe" + struct.pack(">HHH", 0, 52, len(pool) + 1) + b"".join(pool)
-out += struct.pack(">HHHHHH", 0x21, this_class, super_class, 0, 0, len(methods))
-out += b"".join(methods) + struct.pack(">H", 0)
+out += struct.pack(">HHHHH", 0x21, this_class, super_class, 0, len(fields)) + b"".join(fields)
+out += struct.pack(">H", len(methods)) + b"".join(methods) + struct.pack(">H", 0)
 with open(path, "wb") as file:
     file.write(out)

@@ -5,12 +5,12 @@ use Rattle.std.proofs.lemmas.List.{length-take, take_all}
 use Rattle.std.proofs.lemmas.Bool.{cases_lt}
 use Rattle.jv_host.specs.declared.host.HostFile.{HostFile}
 use Rattle.jv_host.specs.Files.{bytes_of}
-use Rattle.jv_static.specs.Form.{file_limit}
+use Rattle.jv_form.specs.ObjectForm.{file_limit}
 use Rattle.av_cli.specs.declared.status.Answer.{Answer}
 use Rattle.av_cli.specs.declared.status.Answer.TheVariants.{Printed, Misused, Unreadable, NoFile, TooLarge, NotClass, OutsideForm, NoMain, Unwritable, OutOfMemory}
 use Rattle.av_cli.specs.Handing.{SinkState}
 use Rattle.av_cli.specs.Answers.{file_name, file_most}
-use Rattle.av_cli.specs.FileStart.{IsTooLarge}
+use Rattle.av_cli.specs.FileKinds.{IsTooLarge}
 use Rattle.av_cli.specs.Ending.{Outside, Prints, ConcludesBytes, Concludes}
 
 -- a file that isn't too long is read whole
@@ -40,7 +40,7 @@ Prints-whole name bytes old new NotClass p =
 Prints-whole name bytes old new OutsideForm p =
     subst (λ (b : List ℕ). Prints name b old new OutsideForm) (take-whole bytes (not_too_large (take file_most bytes) p.0.0)) p
 Prints-whole name bytes old new NoMain p =
-    subst (λ (b : List ℕ). Prints name b old new NoMain) (take-whole bytes p.0.0.1.short) p
+    subst (λ (b : List ℕ). Prints name b old new NoMain) (take-whole bytes p.0.1.1.short) p
 Prints-whole name bytes old new Unwritable p =
     subst (λ (b : List ℕ). Prints name b old new Unwritable) (take-whole bytes p.1.is_class.short) p
 Prints-whole name bytes old new OutOfMemory (inl same) = inl same

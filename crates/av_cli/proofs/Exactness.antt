@@ -3,13 +3,13 @@ use Rattle.std.proofs.Common.{◌≡◌, ℕ, ◌⊎◌, inl, inr, arith, List, 
 use Rattle.std.specs.Prelude.{IfSome}
 use Rattle.jv_host.specs.declared.host.HostFile.{HostFile}
 use Rattle.jv_host.specs.Files.{bytes_of}
-use Rattle.jv_static.specs.declared.static_class.StaticClass.{StaticClass}
-use Rattle.jv_static.specs.Form.{IsStaticClass}
+use Rattle.jv_form.specs.declared.object_class.ObjectClass.{ObjectClass}
+use Rattle.jv_form.specs.ObjectForm.{IsObjectClass}
 use Rattle.av_cli.specs.declared.status.Answer.{Answer}
 use Rattle.av_cli.specs.declared.status.Answer.TheVariants.{Printed, Misused, Unreadable, NoFile, TooLarge, NotClass, OutsideForm, NoMain, Unwritable, OutOfMemory}
 use Rattle.av_cli.specs.Answers.{file_name, request}
-use Rattle.av_cli.specs.FileStart.{IsTooLarge, HasMagic}
-use Rattle.av_cli.specs.Ending.{Outside, Concludes, HasCause, IsDue, IsFaultless, IsInForm, IsNoClass, IsOutsideForm, DeclaresMain, LacksMain, AreMisused}
+use Rattle.av_cli.specs.FileKinds.{IsTooLarge, IsClassFile, IsInForm, IsNoClass, IsOutsideForm, DeclaresMain, LacksMain}
+use Rattle.av_cli.specs.Ending.{Outside, Concludes, HasCause, IsDue, IsFaultless, AreMisused}
 
 -- what an answer says of the bytes of the file
 abbrev Judges : List ℕ → List ℕ → Answer → Type 0
@@ -17,46 +17,43 @@ Judges name bytes TooLarge = IsTooLarge bytes
 Judges name bytes NotClass = IsNoClass bytes
 Judges name bytes OutsideForm = IsOutsideForm name bytes
 Judges name bytes NoMain = LacksMain name bytes
-Judges name bytes Printed = (class : StaticClass) × IsStaticClass name bytes class × DeclaresMain class
+Judges name bytes Printed = (class : ObjectClass) × IsClassFile bytes × IsObjectClass name bytes class × DeclaresMain class
 Judges name bytes Misused = ⊥
 Judges name bytes Unreadable = ⊥
 Judges name bytes NoFile = ⊥
 Judges name bytes Unwritable = ⊥
 Judges name bytes OutOfMemory = ⊥
 
--- bytes of the form are short, and begin as a class file
+-- bytes of the form are short
 form_short : (name bytes : List ℕ) → IsInForm name bytes → ¬ IsTooLarge bytes
 form_short name bytes form large = absurd (omega (arith, form.1.short, large))
-
-form_magic : (name bytes : List ℕ) → IsInForm name bytes → HasMagic bytes
-form_magic name bytes form = (_, form.1.is_outline.2)
 
 -- no two answers say what they do of the same bytes
 one_judgement : (name bytes : List ℕ) (a b : Answer) → Judges name bytes a → Judges name bytes b → a ≡ b
 one_judgement name bytes TooLarge TooLarge p q = refl
 one_judgement name bytes TooLarge NotClass p q = absurd (q.0 p)
 one_judgement name bytes TooLarge OutsideForm p q = absurd (q.0 p)
-one_judgement name bytes TooLarge NoMain p q = absurd (form_short name bytes q.0 p)
-one_judgement name bytes TooLarge Printed p q = absurd (form_short name bytes (q.0, q.1) p)
+one_judgement name bytes TooLarge NoMain p q = absurd (form_short name bytes q.1 p)
+one_judgement name bytes TooLarge Printed p q = absurd (form_short name bytes (q.0, q.2) p)
 one_judgement name bytes NotClass TooLarge p q = absurd (p.0 q)
 one_judgement name bytes NotClass NotClass p q = refl
 one_judgement name bytes NotClass OutsideForm p q = absurd (p.1 q.1)
-one_judgement name bytes NotClass NoMain p q = absurd (p.1 (form_magic name bytes q.0))
-one_judgement name bytes NotClass Printed p q = absurd (p.1 (form_magic name bytes (q.0, q.1)))
+one_judgement name bytes NotClass NoMain p q = absurd (p.1 q.0)
+one_judgement name bytes NotClass Printed p q = absurd (p.1 q.1)
 one_judgement name bytes OutsideForm TooLarge p q = absurd (p.0 q)
 one_judgement name bytes OutsideForm NotClass p q = absurd (q.1 p.1)
 one_judgement name bytes OutsideForm OutsideForm p q = refl
-one_judgement name bytes OutsideForm NoMain p q = absurd (p.2 q.0)
-one_judgement name bytes OutsideForm Printed p q = absurd (p.2 (q.0, q.1))
-one_judgement name bytes NoMain TooLarge p q = absurd (form_short name bytes p.0 q)
-one_judgement name bytes NoMain NotClass p q = absurd (q.1 (form_magic name bytes p.0))
-one_judgement name bytes NoMain OutsideForm p q = absurd (q.2 p.0)
+one_judgement name bytes OutsideForm NoMain p q = absurd (p.2 q.1)
+one_judgement name bytes OutsideForm Printed p q = absurd (p.2 (q.0, q.2))
+one_judgement name bytes NoMain TooLarge p q = absurd (form_short name bytes p.1 q)
+one_judgement name bytes NoMain NotClass p q = absurd (q.1 p.0)
+one_judgement name bytes NoMain OutsideForm p q = absurd (q.2 p.1)
 one_judgement name bytes NoMain NoMain p q = refl
-one_judgement name bytes NoMain Printed p q = absurd (p.1 q.0 q.1 q.2)
-one_judgement name bytes Printed TooLarge p q = absurd (form_short name bytes (p.0, p.1) q)
-one_judgement name bytes Printed NotClass p q = absurd (q.1 (form_magic name bytes (p.0, p.1)))
-one_judgement name bytes Printed OutsideForm p q = absurd (q.2 (p.0, p.1))
-one_judgement name bytes Printed NoMain p q = absurd (q.1 p.0 p.1 p.2)
+one_judgement name bytes NoMain Printed p q = absurd (p.2 q.0 q.2 q.3)
+one_judgement name bytes Printed TooLarge p q = absurd (form_short name bytes (p.0, p.2) q)
+one_judgement name bytes Printed NotClass p q = absurd (q.1 p.1)
+one_judgement name bytes Printed OutsideForm p q = absurd (q.2 (p.0, p.2))
+one_judgement name bytes Printed NoMain p q = absurd (q.2 p.0 p.2 p.3)
 one_judgement name bytes Printed Printed p q = refl
 one_judgement name bytes a Misused p q = absurd q
 one_judgement name bytes a Unreadable p q = absurd q
@@ -96,7 +93,7 @@ told_fact files told P e h = subst (λ (f : Option (List HostFile)). IfSome f P)
 concluded : (o : Outside) (told : List HostFile) (root name : List ℕ) (answer : Answer) → o.files ≡ Some told → IsFaultless o → Concludes o root name answer
     → Verdict told root name answer ⊎ (answer ≡ OutOfMemory)
 concluded o told root name Printed e f c =
-    inl (of_bytes name c.0 _ Printed (told_fact o.files told (λ t. bytes_of t root (file_name name) ≡ Some c.0) e c.1) (c.2.1.class, c.2.1.is_class, c.2.1.main))
+    inl (of_bytes name c.0 _ Printed (told_fact o.files told (λ t. bytes_of t root (file_name name) ≡ Some c.0) e c.1) (c.2.1.class, c.2.1.class_file, c.2.1.is_class, c.2.1.main))
 concluded o told root name TooLarge e f c =
     inl (of_bytes name c.0 _ TooLarge (told_fact o.files told (λ t. bytes_of t root (file_name name) ≡ Some c.0) e c.1) c.2.0)
 concluded o told root name NotClass e f c =
@@ -126,7 +123,7 @@ at_words words told root name root' name' due p q v =
     (subst (λ (n : List ℕ). Verdict told root' n due) (same_name root' name' root name e) v)
 
 due_verdict : (words : List (List ℕ)) (told : List HostFile) (root name : List ℕ) (due : Answer) → words ≡ request root name → IsDue words told due → Verdict told root name due
-due_verdict words told root name Printed p d = at_words words told root name d.0 d.1 Printed p d.4 (of_bytes d.1 d.2 _ Printed d.5 (d.3, d.6, d.7))
+due_verdict words told root name Printed p d = at_words words told root name d.0 d.1 Printed p d.4 (of_bytes d.1 d.2 _ Printed d.5 (d.3, d.6, d.7, d.8))
 due_verdict words told root name Misused p d = absurd (d root name p)
 due_verdict words told root name NoFile p d = at_words words told root name d.0 d.1 NoFile p d.2 (of_none d.1 _ d.3)
 due_verdict words told root name TooLarge p d = at_words words told root name d.0 d.1 TooLarge p d.3 (of_bytes d.1 d.2 _ TooLarge d.4 d.5)

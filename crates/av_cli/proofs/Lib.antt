@@ -3,12 +3,5 @@ pub mod ShownText
 pub mod Concluding
 pub mod Exactness
 pub mod Requests
-pub mod Runs
-pub mod Marking
-pub mod Searching
-pub mod Places
-pub mod Callees
-pub mod Adding
-pub mod InForm
-pub mod CallGraph
-pub mod Classified
+pub mod MainMethods
+pub mod Graphs

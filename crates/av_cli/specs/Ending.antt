@@ -6,14 +6,13 @@ use Rattle.jv_host.specs.declared.host.HostCall.{HostCall}
 use Rattle.jv_host.specs.declared.host.HostCall.TheVariants.{ReadFile}
 use Rattle.jv_host.specs.Counts.{Rises}
 use Rattle.jv_host.specs.Files.{bytes_of}
-use Rattle.jv_static.specs.declared.static_class.StaticClass.{StaticClass}
-use Rattle.jv_static.specs.Form.{IsStaticClass}
+use Rattle.jv_form.specs.declared.object_class.ObjectClass.{ObjectClass}
+use Rattle.jv_form.specs.ObjectForm.{IsObjectClass}
 use Rattle.av_cli.specs.declared.status.Status.{Status}
 use Rattle.av_cli.specs.declared.status.Answer.{Answer}
 use Rattle.av_cli.specs.declared.status.Answer.TheVariants.{Printed, Misused, Unreadable, NoFile, TooLarge, NotClass, OutsideForm, NoMain, Unwritable, OutOfMemory}
-use Rattle.av_cli.specs.Machine.{IsMain}
 use Rattle.av_cli.specs.Promise.{IsCallGraph}
-use Rattle.av_cli.specs.FileStart.{IsTooLarge, HasMagic}
+use Rattle.av_cli.specs.FileKinds.{IsTooLarge, IsClassFile, IsNoClass, IsOutsideForm, DeclaresMain, LacksMain}
 use Rattle.av_cli.specs.Handing.{SinkState, Takes, TakesFront, AreCountsKept}
 use Rattle.av_cli.specs.Answers.{status_of, file_name, file_most, request, class_of_words, error_line}
 
@@ -30,25 +29,6 @@ pub record Outside : Type 0 where
 -- where files are told, the class's file under the root has these bytes
 abbrev pub HasFile : Outside → List ℕ → List ℕ → List ℕ → Type 0
 HasFile o root name bytes = IfSome o.files (λ told. bytes_of told root (file_name name) ≡ Some bytes)
-
-abbrev pub IsInForm : List ℕ → List ℕ → Type 0
-IsInForm name bytes = (class : StaticClass) × IsStaticClass name bytes class
-
--- the file isn't too long, and doesn't begin as a class file
-abbrev pub IsNoClass : List ℕ → Type 0
-IsNoClass bytes = (¬ IsTooLarge bytes) × (¬ HasMagic bytes)
-
--- the file isn't too long and begins as a class file, and isn't in the form
-abbrev pub IsOutsideForm : List ℕ → List ℕ → Type 0
-IsOutsideForm name bytes = (¬ IsTooLarge bytes) × HasMagic bytes × (¬ IsInForm name bytes)
-
--- the class declares its own public static main
-abbrev pub DeclaresMain : StaticClass → Type 0
-DeclaresMain class = (place : ℕ) × IsMain class place
-
--- the bytes are a class, and it declares no such main
-abbrev pub LacksMain : List ℕ → List ℕ → Type 0
-LacksMain name bytes = IsInForm name bytes × ((class : StaticClass) → IsStaticClass name bytes class → ¬ DeclaresMain class)
 
 abbrev pub NothingPrinted : Outside → Type 0
 NothingPrinted o = o.out_after ≡ o.out_before
@@ -104,8 +84,8 @@ HasCause words o answer = (root : List ℕ) × (name : List ℕ) × (words ≡ r
 -- the answer that words and told files determine, where nothing fails
 abbrev pub IsDue : List (List ℕ) → List HostFile → Answer → Type 0
 IsDue words told Printed =
-    (root : List ℕ) × (name : List ℕ) × (bytes : List ℕ) × (class : StaticClass) × (words ≡ request root name)
-    × (bytes_of told root (file_name name) ≡ Some bytes) × IsStaticClass name bytes class × DeclaresMain class
+    (root : List ℕ) × (name : List ℕ) × (bytes : List ℕ) × (class : ObjectClass) × (words ≡ request root name)
+    × (bytes_of told root (file_name name) ≡ Some bytes) × IsClassFile bytes × IsObjectClass name bytes class × DeclaresMain class
 IsDue words told Misused = AreMisused words
 IsDue words told NoFile = (root : List ℕ) × (name : List ℕ) × (words ≡ request root name) × (bytes_of told root (file_name name) ≡ None)
 IsDue words told TooLarge =

@@ -1,12 +1,6 @@
-pub mod Machine
-pub mod Reach
-pub mod Lines
+pub mod FileKinds
 pub mod Promise
 pub mod Answers
 pub mod Handing
-pub mod FileStart
 pub mod Ending
 pub mod Graphs
-pub mod Marks
-pub mod Covers
-pub mod Adding

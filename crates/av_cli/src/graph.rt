@@ -1,10 +1,13 @@
-ghost use Rattle.std.specs.Prelude.{◌↔◌, IsTrue};
-ghost use Rattle.av_cli.specs.FileStart.{HasMagic};
-ghost use Rattle.av_cli.specs.Graphs.{IsGraphOf};
+ghost use Rattle.std.specs.Prelude.{◌↔◌, ◌≡◌, IsTrue, IfOk};
+ghost use Rattle.av_cli.specs.declared.graph.GraphError.TheVariants.{Memory};
+ghost use Rattle.av_cli.specs.FileKinds.{IsClassFile};
+ghost use Rattle.av_cli.specs.Graphs.{IsClassOf, IsGraphOf};
 
-use crate::coverage::{class_lines, form_keeps_range};
-use crate::reach::main_place;
-use jv_static::{FILE_LIMIT, ReadError, one_static_class, read_static_class};
+use crate::mains::declares_main;
+use av_report::first::class_lines;
+use jv_class::{BadClass, read_class};
+use jv_form::object_class::ObjectClass;
+use jv_form::{FILE_LIMIT, ReadError, class_in_range, one_object_class, read_object_class};
 use jv_types::Name;
 use std::alloc::{AllocError, Global};
 use std::collections::BTreeSet;
@@ -16,46 +19,64 @@ pub enum GraphError {
     Memory,
     /// The file is longer than a class file may be.
     TooLarge,
-    /// The bytes don't begin as those of a class file.
+    /// The bytes are no class file.
     NotClass,
-    /// The bytes aren't of the form.
+    /// The bytes are a class file, and aren't of the form.
     OutsideForm,
     /// The class has no public static `main` of its own.
     NoMain,
 }
 
-/// Whether the bytes begin as each class file does (JVMS 4.1).
-fn has_magic(bytes: &[u8]) -> bool
-    ensures { IsTrue result ↔ HasMagic bytes.now }
-{
-    match bytes {
-        [0xCA, 0xFE, 0xBA, 0xBE, ..] => true,
-        _ => false,
+impl From<AllocError> for GraphError {
+    ghost from_gives = { λ _ e. e ≡ Memory };
+
+    fn from(_e: AllocError) -> GraphError {
+        GraphError::Memory
     }
+}
+
+/// Whether the bytes are the text of a class file (JVMS 4.1), of which nothing is kept. Only memory can be
+/// wanting.
+fn is_class_file(alloc: Global, bytes: &[u8]) -> Result<bool, AllocError>
+    ensures { IfOk result (λ is. IsTrue is ↔ IsClassFile bytes.now) }
+{
+    match read_class(alloc, bytes) {
+        Ok(_) => Ok(true),
+        Err(BadClass::NotClass) => Ok(false),
+        Err(BadClass::Memory) => Err(AllocError),
+    }
+}
+
+/// The class of this name that the bytes are, which has a main of its own.
+fn main_class(alloc: Global, name: &[u8], bytes: &[u8]) -> Result<ObjectClass, GraphError>
+    ensures { IsClassOf name.now bytes.now result }
+{
+    one_object_class();
+    if bytes.len() > FILE_LIMIT {
+        return Err(GraphError::TooLarge);
+    }
+    let is_class = is_class_file(alloc, bytes)?;
+    if !is_class {
+        return Err(GraphError::NotClass);
+    }
+    let class = match read_object_class(alloc, name, bytes) {
+        Ok(class) => class,
+        Err(ReadError::Memory) => return Err(GraphError::Memory),
+        Err(ReadError::Malformed) => return Err(GraphError::OutsideForm),
+    };
+    if !declares_main(&class) {
+        return Err(GraphError::NoMain);
+    }
+    Ok(class)
 }
 
 /// The lines of the class of this name that the bytes are.
 pub fn call_graph(alloc: Global, name: &[u8], bytes: &[u8]) -> Result<BTreeSet<Name>, GraphError>
     ensures { IsGraphOf name.now bytes.now result }
 {
-    one_static_class();
-    form_keeps_range();
-    if bytes.len() > FILE_LIMIT {
-        return Err(GraphError::TooLarge);
-    }
-    if !has_magic(bytes) {
-        return Err(GraphError::NotClass);
-    }
-    let class = match read_static_class(alloc, name, bytes) {
-        Ok(class) => class,
-        Err(ReadError::Memory) => return Err(GraphError::Memory),
-        Err(ReadError::Malformed) => return Err(GraphError::OutsideForm),
-    };
-    if main_place(&class).is_none() {
-        return Err(GraphError::NoMain);
-    }
-    match class_lines(alloc, &class) {
-        Ok(lines) => Ok(lines),
-        Err(AllocError) => Err(GraphError::Memory),
-    }
+    one_object_class();
+    class_in_range();
+    let class = main_class(alloc, name, bytes)?;
+    let lines = class_lines(alloc, &class)?;
+    Ok(lines)
 }

@@ -50,9 +50,9 @@ pub enum Answer {
     NoFile,
     /// The file is longer than a class file may be.
     TooLarge,
-    /// The bytes don't begin as those of a class file.
+    /// The bytes are no class file.
     NotClass,
-    /// The bytes aren't of the form.
+    /// The bytes are a class file, and aren't of the form.
     OutsideForm,
     /// The class has no public static `main` of its own.
     NoMain,

@@ -10,8 +10,8 @@ use jv_host::{Host, Sink};
 use std::alloc::Global;
 
 /// Runs the command that the words name. `calls ROOT NAME` reads `NAME.class` under ROOT and prints
-/// the calls of that class to `out`, a line each, sorted by bytes. A status that isn't `Done` writes one
-/// line to `err`.
+/// the calls of that class, and where its objects stand, to `out`, a line each, sorted by bytes. A status
+/// that isn't `Done` writes one line to `err`.
 pub fn run<H: Host, O: Sink, E: Sink>(
     alloc: Global,
     words: &[&str],

@@ -295,22 +295,22 @@ typed_not_main own access desc arguments result h e =
 pub method_desc_takes : (own : List ℕ) (access : Access) (desc : List ℕ) (x : List Kind × Option Kind) → method_desc own access desc ≡ Some x → IsMethodDesc own access desc x.0 x.1
 unfolding method_desc
 method_desc_takes own access desc x e =
-    elim (chosen (has_static access && bytes_eq desc main_desc) (Some (Reference ∷ [], None)) (typed_desc own access desc) (Some x) e) [
+    elim (chosen (bytes_eq desc main_desc) (Some (receiver_of access ++ Reference ∷ [], None)) (typed_desc own access desc) (Some x) e) [
       | inl h ↦
-          let both = both_true (has_static access) (bytes_eq desc main_desc) h.0 in
-          inl (given_as (λ (y : List Kind × Option Kind). IsMainDesc access desc y.0 y.1) (Reference ∷ [], None) x h.1
-          (record { is_static = (Decides-static access).0 both.0; spelled = (bytes_eq-Decides desc main_desc).0 both.1; arguments_are = refl; result_is = refl }))
+          inl (given_as (λ (y : List Kind × Option Kind). IsMainDesc access desc y.0 y.1) (receiver_of access ++ Reference ∷ [], None) x h.1
+          (record { receiver = receiver_of access; is_receiver = receiver_is access (has_static access) refl; spelled = (bytes_eq-Decides desc main_desc).0 h.0; arguments_are = refl; result_is = refl }))
       | inr h ↦ inr (typed_takes own access desc x h.1)
     ]
 
 pub method_desc_again : (own : List ℕ) (access : Access) (desc : List ℕ) (arguments : List Kind) (result : Option Kind) → IsMethodDesc own access desc arguments result → method_desc own access desc ≡ Some (arguments, result)
 unfolding method_desc
 method_desc_again own access desc arguments result (inl h) =
-    let test = two_true (has_static access) (bytes_eq desc main_desc) ((Decides-static access).1 h.is_static) ((bytes_eq-Decides desc main_desc).1 h.spelled) in
-    let words : (Reference ∷ [], None) ≡ (arguments, result) =
-    ap (λ (w : List Kind). let y : List Kind × Option Kind = (w, None) in y) (sym h.arguments_are) ∙ ap (λ (r : Option Kind). let y : List Kind × Option Kind = (arguments, r) in y) (sym h.result_is) in
+    let test = (bytes_eq-Decides desc main_desc).1 h.spelled in
+    let words : (receiver_of access ++ Reference ∷ [], None) ≡ (arguments, result) =
+    ap (λ (w : List Kind). let y : List Kind × Option Kind = (w ++ Reference ∷ [], None) in y) (receiver_again access h.receiver h.is_receiver)
+    ∙ ap (λ (w : List Kind). let y : List Kind × Option Kind = (w, None) in y) (sym h.arguments_are) ∙ ap (λ (r : Option Kind). let y : List Kind × Option Kind = (arguments, r) in y) (sym h.result_is) in
     rw test (ap (λ (y : List Kind × Option Kind). Some y) words)
 method_desc_again own access desc arguments result (inr h) =
-    let test : (has_static access && bytes_eq desc main_desc) ≡ false = not_true (has_static access && bytes_eq desc main_desc)
-    (λ t. typed_not_main own access desc arguments result h ((bytes_eq-Decides desc main_desc).0 (both_true (has_static access) (bytes_eq desc main_desc) t).1)) in
+    let test : bytes_eq desc main_desc ≡ false = not_true (bytes_eq desc main_desc)
+    (λ t. typed_not_main own access desc arguments result h ((bytes_eq-Decides desc main_desc).0 t)) in
     rw test (typed_again own access desc arguments result h)

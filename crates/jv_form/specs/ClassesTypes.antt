@@ -80,4 +80,4 @@ typed_desc own access desc = do
 -- the argument words and the result
 unfoldable pub method_desc : List ℕ → Access → List ℕ → Option (List Kind × Option Kind)
 method_desc own access desc =
-    if has_static access && bytes_eq desc main_desc then Some (Reference ∷ [], None) else typed_desc own access desc
+    if bytes_eq desc main_desc then Some (receiver_of access ++ Reference ∷ [], None) else typed_desc own access desc

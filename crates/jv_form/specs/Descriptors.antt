@@ -52,11 +52,12 @@ pub record IsTypedDesc (own : List ℕ) (access : Access) (desc : List ℕ) (arg
   pub spelled : desc ≡ 40 ∷ types ++ 41 ∷ result_type
   pub arguments_are : arguments ≡ receiver ++ parameters
 
--- main's descriptor at a static method: one reference
+-- main's descriptor: one reference behind the receiver's word
 pub record IsMainDesc (access : Access) (desc : List ℕ) (arguments : List Kind) (result : Option Kind) : Type 0 where
-  pub is_static : IsStatic access
+  pub receiver : List Kind
+  pub is_receiver : IsReceiver access receiver
   pub spelled : desc ≡ main_desc
-  pub arguments_are : arguments ≡ Reference ∷ []
+  pub arguments_are : arguments ≡ receiver ++ Reference ∷ []
   pub result_is : result ≡ None
 
 -- the descriptor of a method with these flags says these argument words and this result

@@ -1,4 +1,4 @@
-ghost use Rattle.std.specs.Prelude.{◌≡◌, ◌==◌, [], ◌∷◌, position, IfOk};
+ghost use Rattle.std.specs.Prelude.{◌≡◌, ◌==◌, [], ◌∷◌, ◌++◌, position, IfOk};
 ghost use Rattle.jv_form.specs.Reading.{Gives};
 ghost use Rattle.jv_form.specs.ClassesTypes.{name_at, class_type_at, type_at, whole_type, is_closed, arguments_at, kind_of_result, result_at, has_static, receiver_of, typed_desc, method_desc};
 
@@ -166,17 +166,17 @@ fn read_typed_desc(
     Ok((arguments, result_kind))
 }
 
-/// One word that is a reference.
-fn one_reference(alloc: Global) -> Result<Vec<Kind>, AllocError>
-    ensures { IfOk result (λ v. v.items ≡ Kind.Reference ∷ []) }
+/// The argument words of a method with main's descriptor: a reference behind the receiver's word.
+fn main_arguments(alloc: Global, access: Access) -> Result<Vec<Kind>, AllocError>
+    ensures { IfOk result (λ v. v.items ≡ receiver_of access ++ Kind.Reference ∷ []) }
 {
-    let mut words = Vec::new(alloc);
+    let mut words = receiver_of(alloc, access)?;
     words.push(Kind::Reference)?;
     Ok(words)
 }
 
-/// The argument words and the result that the descriptor of a method with these flags says: of main's
-/// at a static method, or of one over ints, the class itself and `java/lang/Object` (JVMS 4.3.3).
+/// The argument words and the result that the descriptor of a method with these flags says: main's, or
+/// one over ints, the class itself and `java/lang/Object` (JVMS 4.3.3).
 #[tactic(auto, unfolding(crate::specs::ClassesTypes::method_desc))]
 pub fn read_method_desc(
     alloc: Global,
@@ -186,8 +186,8 @@ pub fn read_method_desc(
 ) -> Result<(Vec<Kind>, Option<Kind>), ReadError>
     ensures { Gives (λ x. (x.0.items, x.1)) result (method_desc own.now access desc.now) }
 {
-    if has_static(access) && desc == b"([Ljava/lang/String;)V".as_slice() {
-        return Ok((one_reference(alloc)?, None));
+    if desc == b"([Ljava/lang/String;)V".as_slice() {
+        return Ok((main_arguments(alloc, access)?, None));
     }
     read_typed_desc(alloc, own, access, desc)
 }

@@ -13,3 +13,4 @@ pub mod MethodLemmas
 pub mod SelectionLemmas
 pub mod SpecialLemmas
 pub mod FieldLemmas
+pub mod OneAnswer

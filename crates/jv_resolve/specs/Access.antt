@@ -1,5 +1,6 @@
 -- Access control (JVMS 5.4.4).
 use Rattle.std.specs.Prelude.{◌≡◌, ℕ, ◌⊎◌, List, Some, codes}
+use Rattle.std.specs.List.{slice_get}
 use Rattle.jv_types.specs.declared.access.Access.{Access}
 use Rattle.jv_types.specs.declared.desc.RefType.{RefType}
 use Rattle.jv_types.specs.declared.ids.FieldId.{FieldId}
@@ -13,6 +14,14 @@ use Rattle.jv_world.specs.Worlds.{IsNamed, Sub}
 use Rattle.jv_resolve.specs.Members.{IsPublic, IsPrivate, IsProtected, IsPackagePrivate, IsStatic, IsMethod, IsField}
 use Rattle.jv_resolve.specs.Packages.{AreInOnePackage}
 use Rattle.jv_resolve.specs.References.{named_class, IsArray}
+
+-- the class of this number is public (JVMS table 4.1-A)
+abbrev pub IsPublicClass : List Shape → ℕ → Type 0
+IsPublicClass w c = (s : Shape) × (slice_get w c ≡ Some s) × IsPublic s.flags
+
+-- the class c is accessible from the class `from`: it is public, or the two are of one package
+abbrev pub IsClassAccessible : List Shape → ℕ → ℕ → Type 0
+IsClassAccessible w from c = IsPublicClass w c ⊎ AreInOnePackage w from c
 
 -- the name is that of the class c, or of a subclass or a superclass of it
 abbrev pub IsInLine : List Shape → ℕ → List ℕ → Type 0

@@ -1,7 +1,7 @@
 ghost use Rattle.std.specs.Prelude.{◌≡◌, ◌<◌, ◌↔◌, length, codes, IsTrue};
 ghost use Rattle.jv_resolve.specs.Members.{HasMethod, HasField};
 ghost use Rattle.jv_resolve.specs.References.{IsArray};
-ghost use Rattle.jv_resolve.specs.Access.{IsInLine, NamesInLine, IsProtectedAccess, HasAccess, IsFieldAccessible, IsAccessible};
+ghost use Rattle.jv_resolve.specs.Access.{IsPublicClass, IsClassAccessible, IsInLine, NamesInLine, IsProtectedAccess, HasAccess, IsFieldAccessible, IsAccessible};
 
 use crate::flags::{is_private, is_protected, is_public, is_static};
 use crate::members::{field_shape, method_shape};
@@ -10,6 +10,24 @@ use crate::packages::are_in_one_package;
 use crate::references::{is_array, is_clone, named_class};
 use jv_types::{Access, ClassId, FieldId, FieldRef, MethodId, MethodRef, Name, RefType};
 use jv_world::World;
+
+/// Whether a class is public (JVMS table 4.1-A).
+fn is_public_class(world: &World, c: ClassId) -> bool
+    requires { c.number < length world.now }
+    ensures { IsTrue result ↔ IsPublicClass world.now c.number }
+{
+    is_public(world.shape(c).flags)
+}
+
+/// Whether the class `c` is accessible from the class `from` (JVMS 5.4.4): it is public, or the two are of one
+/// package.
+pub fn is_class_accessible(world: &World, from: ClassId, c: ClassId) -> bool
+    requires from_here { from.number < length world.now }
+    requires c_here { c.number < length world.now }
+    ensures exact { IsTrue result ↔ IsClassAccessible world.now from.number c.number }
+{
+    is_public_class(world, c) || are_in_one_package(world, from, c)
+}
 
 /// Whether a name is that of a class, or of a subclass or a superclass of it.
 fn is_in_line(world: &World, c: ClassId, name: &Name) -> bool

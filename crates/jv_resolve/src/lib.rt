@@ -7,6 +7,7 @@ mod class_methods;
 mod depth_first;
 mod fields;
 mod flags;
+mod laws;
 mod members;
 mod methods;
 mod nearest;
@@ -18,7 +19,9 @@ mod selection;
 mod special;
 mod superinterfaces;
 
+pub use access::is_class_accessible;
 pub use fields::field;
+pub use laws::{calls_select_one, references_resolve_to_one};
 pub use methods::{interface_method, method};
 pub use overriding::overrides;
 pub use refusal::ResolveRefusal;

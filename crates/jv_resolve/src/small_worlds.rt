@@ -9,6 +9,7 @@ use jv_types::{
     RefType, Seq, Shape,
 };
 use jv_world::{HierRefusal, World, are_numbered};
+use sqlite_items::Boxed;
 use std::alloc::{AllocError, Global};
 use std::test::Fail;
 
@@ -39,26 +40,46 @@ fn is_bracket(byte: &u8) -> bool {
     *byte == b'(' || *byte == b')'
 }
 
-/// The type of a letter: int, or Object, or none.
-fn type_of(alloc: Global, letter: &[u8]) -> Result<Option<Desc>, AllocError> {
+/// The class that a letter stands for in a descriptor: `O` is Object.
+fn class_of(letter: u8) -> &'static [u8] {
     match letter {
-        b"I" => Ok(Some(Desc::Prim(Prim::Int))),
-        b"O" => {
-            let name = Name::from_slice(alloc, b"java/lang/Object")?;
-            Ok(Some(Desc::Ref(RefType::Class(name))))
-        }
-        _ => Ok(None),
+        b'S' => b"java/lang/String",
+        b'K' => b"java/lang/Class",
+        b'E' => b"java/lang/Enum",
+        b'R' => b"java/lang/Runnable",
+        b'L' => b"java/util/List",
+        b'H' => b"app/Hidden",
+        _ => b"java/lang/Object",
     }
 }
 
-/// The descriptor of a method such as `m(I)O`, which has a parameter and a result, or `m`, which has neither.
+/// The type of a letter: `I` int, `Z` boolean, `A` an array of Object, `D` an array of such arrays, and
+/// otherwise a class.
+fn type_of(alloc: Global, letter: u8) -> Result<Desc, AllocError> {
+    let class = RefType::Class(Name::from_slice(alloc, class_of(letter))?);
+    match letter {
+        b'I' => Ok(Desc::Prim(Prim::Int)),
+        b'Z' => Ok(Desc::Prim(Prim::Boolean)),
+        b'A' => Ok(Desc::Ref(RefType::Array(Boxed::new(alloc, class)?))),
+        b'D' => {
+            let inner = RefType::Array(Boxed::new(alloc, class)?);
+            Ok(Desc::Ref(RefType::Array(Boxed::new(alloc, inner)?)))
+        }
+        _ => Ok(Desc::Ref(class)),
+    }
+}
+
+/// The descriptor of a method such as `m(IO)Z`, which has parameters and a result, or `m`, which has neither.
 fn desc_of(alloc: Global, method: &[u8]) -> Result<MethodDesc, AllocError> {
     let mut parts = method.split(is_bracket).skip(1);
     let mut params = Seq::new(alloc);
-    if let Some(param) = type_of(alloc, parts.next().unwrap_or(b""))? {
-        params.push(param)?;
+    for letter in parts.next().unwrap_or(b"") {
+        params.push(type_of(alloc, *letter)?)?;
     }
-    let result = type_of(alloc, parts.next().unwrap_or(b""))?;
+    let result = match parts.next().unwrap_or(b"").first() {
+        None => None,
+        Some(letter) => Some(type_of(alloc, *letter)?),
+    };
     Ok(MethodDesc { params, result })
 }
 
@@ -68,7 +89,8 @@ fn name_of(alloc: Global, method: &[u8]) -> Result<Name, AllocError> {
 }
 
 /// The access flags of a member, by the two marks in front of it: `+` public, `#` protected, `~`
-/// package-private or `-` private, then `s` static, `a` abstract or `.` neither.
+/// package-private or `-` private, then `s` static, `a` abstract, `f` final, `c` static and final, or `.`
+/// none of these.
 fn access_of(marks: &[u8]) -> Option<Access> {
     let access: u16 = match marks.first() {
         Some(b'+') => 1,
@@ -80,6 +102,8 @@ fn access_of(marks: &[u8]) -> Option<Access> {
     let kind: u16 = match marks.get(1) {
         Some(b's') => 8,
         Some(b'a') => 0x400,
+        Some(b'f') => 0x10,
+        Some(b'c') => 0x18,
         _ => 0,
     };
     Some(Access(access | kind))
@@ -120,18 +144,26 @@ fn parent_of(alloc: Global, class: &[u8], text: &[u8]) -> Result<Option<Name>, A
     Ok(Some(Name::from_slice(alloc, text)?))
 }
 
-/// A class of a line: its name, `C` or `I` for an interface, its superclass and then its parts.
+/// The access flags of a class: `I` for an interface, `F` for a final and `A` for an abstract class, `P` for
+/// one that isn't public, and `C` for any other.
+fn class_flags_of(kind: &[u8]) -> Access {
+    match kind {
+        b"I" => Access(0x601),
+        b"F" => Access(0x31),
+        b"A" => Access(0x421),
+        b"P" => Access(0x20),
+        _ => Access(0x21),
+    }
+}
+
+/// A class of a line: its name, the letter of its kind, its superclass and then its parts.
 fn shape_of(alloc: Global, word: &[u8]) -> Result<Shape, AllocError> {
     let mut parts = word.split(is_comma);
     let name = parts.next().unwrap_or(b"");
-    let is_interface = parts.next() == Some(b"I".as_slice());
+    let flags = class_flags_of(parts.next().unwrap_or(b""));
     let mut shape = Shape {
         name: Name::from_slice(alloc, name)?,
-        flags: if is_interface {
-            Access(0x601)
-        } else {
-            Access(0x21)
-        },
+        flags,
         parent: parent_of(alloc, name, parts.next().unwrap_or(b""))?,
         interfaces: Seq::new(alloc),
         fields: Seq::new(alloc),
@@ -145,12 +177,37 @@ fn shape_of(alloc: Global, word: &[u8]) -> Result<Shape, AllocError> {
 }
 
 static OBJECT: &[u8] =
-    b"java/lang/Object,C,,+.<init>,+.toString()O,+.hashCode()I,#.clone()O,#.finalize";
+    b"java/lang/Object,C,,+.<init>,+.hashCode()I,+.equals(O)Z,+.toString()S,+fgetClass()K,#.clone()O,#.finalize";
 
-/// The world of Object and the classes of a line.
+/// A library after the JDK's, cut down, beside Object.
+const LIBRARY: &[u8] = b"\
+    java/lang/String,F,,java/io/Serializable,+.length()I,+.toString()S,+.hashCode()I \
+    java/lang/Class,F,,java/io/Serializable,+.desiredAssertionStatus()Z,+sforName(S)K \
+    java/lang/Throwable,C,,java/io/Serializable,+.<init> \
+    java/lang/Exception,C,java/lang/Throwable,+.<init> \
+    java/lang/Cloneable,I \
+    java/io/Serializable,I \
+    java/lang/Runnable,I,,+arun \
+    java/lang/Thread,C,,java/lang/Runnable,+.<init>(R),+.start,+.run \
+    java/lang/System,F,,+cout:java/io/PrintStream \
+    java/io/PrintStream,C,,+.println(S) \
+    java/lang/Enum,A,,java/io/Serializable,#.<init>(SI),+fordinal()I,+.toString()S,+svalueOf(KS)E \
+    java/util/List,I,,+aget(I)O,+aadd(O)Z \
+    java/util/RandomAccess,I \
+    java/util/ArrayList,C,,java/util/List,java/util/RandomAccess,java/lang/Cloneable,java/io/Serializable,+.<init>,+.get(I)O,+.add(O)Z \
+    java/util/HashMap,C,,+.<init>,+.put(OO)O \
+    java/util/Collections,C,,+semptyList()L \
+    lib/Base,C,,+.<init>,+.m \
+    lib/Caller,C,,+scall(R) \
+    lib/Maker,C,,+sobjects()A,+sdeep()D \
+    lib/Bad,C,,+sf(H)";
+
+/// The world of the classes of a line, and of Object where the line doesn't begin with it.
 fn build(alloc: Global, line: &[u8]) -> Result<World, HierRefusal> {
     let mut shapes = Vec::new(alloc);
-    shapes.push(shape_of(alloc, OBJECT)?)?;
+    if !line.starts_with(b"java/lang/Object,") {
+        shapes.push(shape_of(alloc, OBJECT)?)?;
+    }
     for word in line.split(is_space) {
         shapes.push(shape_of(alloc, word)?)?;
     }
@@ -205,8 +262,15 @@ fn refusal_of(name: &[u8]) -> Option<ResolveRefusal> {
 
 /// Worlds, each with a class, a reference that it has to a method of a class or an interface, and what is
 /// found.
-static METHODS: [(&[u8], &[u8], &[u8]); 33] = [
-    // the class and its superclasses come first
+static METHODS: [(&[u8], &[u8], &[u8]); 49] = [
+    // JVMS 5.4.3.3: the class of the reference comes first, and it may not be an interface
+    (b"a/C,C", b"a/C class a/Z.m", b"NotFound"),
+    (
+        b"a/I,I,,+am a/C,C,,a/I,+.m",
+        b"a/C class a/I.m",
+        b"WrongKind",
+    ),
+    // the class itself, and then its superclasses, by name and descriptor
     (b"a/P,C,,+.m a/C,C,a/P,+.m", b"a/C class a/C.m", b"a/C.m"),
     (
         b"a/I,I,,+.m a/P,C,,+.m a/C,C,a/P,a/I",
@@ -223,7 +287,13 @@ static METHODS: [(&[u8], &[u8], &[u8]); 33] = [
         b"a/C class a/C.m",
         b"NotFound",
     ),
-    // then the single default among the maximally specific superinterface methods
+    // no method is found by its name alone, a signature polymorphic one neither
+    (
+        b"java/lang/invoke/MethodHandle,F,,+finvoke(A)O a/C,C",
+        b"a/C class java/lang/invoke/MethodHandle.invoke(I)O",
+        b"NotFound",
+    ),
+    // then the one maximally specific superinterface method that isn't abstract, if there is one
     (
         b"a/I,I,,+.m a/J,I,,a/I,+.m a/C,C,,a/I,a/J",
         b"a/C class a/C.m",
@@ -234,6 +304,16 @@ static METHODS: [(&[u8], &[u8], &[u8]); 33] = [
         b"a/C class a/C.m",
         b"a/J.m",
     ),
+    (
+        b"a/I,I,,+am a/K,I,,+.m a/J,I,,a/K a/P,C,,a/J a/C,C,a/P,a/I",
+        b"a/C class a/C.m",
+        b"a/K.m",
+    ),
+    (
+        b"a/I,I,,+sm a/J,I,,-.m a/K,I,,+.m a/C,C,,a/I,a/J,a/K",
+        b"a/C class a/C.m",
+        b"a/K.m",
+    ),
     // then any superinterface method that is neither private nor static: the first one depth first
     (
         b"a/I,I,,+.m a/J,I,,+.m a/C,C,,a/J,a/I",
@@ -241,10 +321,26 @@ static METHODS: [(&[u8], &[u8], &[u8]); 33] = [
         b"a/J.m",
     ),
     (
+        b"a/I,I,,+am a/J,I,,+am a/C,C,,a/J,a/I",
+        b"a/C class a/C.m",
+        b"a/J.m",
+    ),
+    (
+        b"a/I,I,,+.m a/J,I,,a/I,+am a/C,C,,a/I,a/J",
+        b"a/C class a/C.m",
+        b"a/I.m",
+    ),
+    (
         b"a/K,I,,+.m a/I,I,,+.m a/J,I,,a/K a/C,C,,a/J,a/I",
         b"a/C class a/C.m",
         b"a/K.m",
     ),
+    (
+        b"a/I,I,,+am a/J,I,,+am a/P,C,,a/I a/C,C,a/P,a/J",
+        b"a/C class a/C.m",
+        b"a/J.m",
+    ),
+    // otherwise nothing is found
     (b"a/I,I,,+sm a/C,C,,a/I", b"a/C class a/C.m", b"NotFound"),
     (b"a/I,I,,-.m a/C,C,,a/I", b"a/C class a/C.m", b"NotFound"),
     // <init> is found in the named class alone
@@ -258,25 +354,23 @@ static METHODS: [(&[u8], &[u8], &[u8]); 33] = [
         b"a/C class a/P.<init>",
         b"a/P.<init>",
     ),
-    // the kind of the named type
-    (
-        b"a/I,I,,+am a/C,C,,a/I,+.m",
-        b"a/C class a/I.m",
-        b"WrongKind",
-    ),
-    (
-        b"a/I,I,,+am a/C,C,,a/I,+.m",
-        b"a/C interface a/C.m",
-        b"WrongKind",
-    ),
-    // private, package-private and protected methods
+    (b"a/C,C", b"a/C class [I.<init>", b"NotFound"),
+    // what is found has to be accessible (5.4.4): public, private, package-private
+    (b"a/P,C,,+.m b/C,C", b"b/C class a/P.m", b"a/P.m"),
     (b"a/P,C,,-.m a/C,C", b"a/P class a/P.m", b"a/P.m"),
     (b"a/P,C,,-.m a/C,C", b"a/C class a/P.m", b"NoAccess"),
     (b"a/P,C,,~.m a/C,C", b"a/C class a/P.m", b"a/P.m"),
     (b"a/P,C,,~.m b/C,C,a/P", b"b/C class a/P.m", b"NoAccess"),
+    // protected: in the package, or in a subclass by the name of a class in line with it
     (b"a/P,C,,#.m a/C,C", b"a/C class a/P.m", b"a/P.m"),
     (b"a/P,C,,#.m b/C,C", b"b/C class a/P.m", b"NoAccess"),
     (b"a/P,C,,#.m b/C,C,a/P", b"b/C class b/C.m", b"a/P.m"),
+    (b"a/P,C,,#.m b/C,C,a/P", b"b/C class a/P.m", b"a/P.m"),
+    (
+        b"a/P,C,,#.m b/C,C,a/P b/D,C,b/C",
+        b"b/C class b/D.m",
+        b"a/P.m",
+    ),
     (
         b"a/P,C,,#.m b/C,C,a/P b/D,C,a/P",
         b"b/C class b/D.m",
@@ -290,8 +384,8 @@ static METHODS: [(&[u8], &[u8], &[u8]); 33] = [
     // arrays
     (
         b"a/C,C",
-        b"a/C class [I.toString()O",
-        b"java/lang/Object.toString()O",
+        b"a/C class [I.toString()S",
+        b"java/lang/Object.toString()S",
     ),
     (
         b"a/C,C",
@@ -299,27 +393,53 @@ static METHODS: [(&[u8], &[u8], &[u8]); 33] = [
         b"java/lang/Object.clone()O",
     ),
     (b"a/C,C", b"a/C class [I.finalize", b"NoAccess"),
-    // interfaces: their own methods, then Object's public ones, then those of superinterfaces
+    // JVMS 5.4.3.4: the type of the reference has to be an interface
     (
-        b"a/I,I,,+am,+.toString()O",
-        b"a/I interface a/I.toString()O",
-        b"a/I.toString()O",
+        b"a/I,I,,+am a/C,C,,a/I,+.m",
+        b"a/C interface a/C.m",
+        b"WrongKind",
+    ),
+    (b"a/C,C", b"a/C interface a/Z.m", b"WrongKind"),
+    (b"a/C,C", b"a/C interface [I.toString()S", b"WrongKind"),
+    // its own methods, and then Object's that are public and not static
+    (
+        b"a/I,I,,+am,+.toString()S",
+        b"a/I interface a/I.toString()S",
+        b"a/I.toString()S",
     ),
     (
-        b"a/J,I,,+.toString()O a/I,I,,a/J",
-        b"a/I interface a/I.toString()O",
-        b"java/lang/Object.toString()O",
+        b"a/J,I,,+.toString()S a/I,I,,a/J",
+        b"a/I interface a/I.toString()S",
+        b"java/lang/Object.toString()S",
     ),
+    (b"a/I,I", b"a/I interface a/I.finalize", b"NotFound"),
+    (
+        b"java/lang/Object,C,,+sm a/I,I",
+        b"a/I interface a/I.m",
+        b"NotFound",
+    ),
+    // then the one maximally specific superinterface method that isn't abstract, if there is one
+    (
+        b"a/J,I,,+am a/K,I,,+.m a/I,I,,a/J,a/K",
+        b"a/I interface a/I.m",
+        b"a/K.m",
+    ),
+    // then the first superinterface method that is neither private nor static
     (b"a/J,I,,+am a/I,I,,a/J", b"a/I interface a/I.m", b"a/J.m"),
+    (
+        b"a/J,I,,+.m a/K,I,,+.m a/I,I,,a/J,a/K",
+        b"a/I interface a/I.m",
+        b"a/J.m",
+    ),
     (
         b"a/J,I,,+sm a/I,I,,a/J",
         b"a/I interface a/I.m",
         b"NotFound",
     ),
-    (b"a/I,I", b"a/I interface a/I.finalize", b"NotFound"),
+    // and it has to be accessible
     (b"a/I,I,,-.m a/C,C", b"a/C interface a/I.m", b"NoAccess"),
     (
-        b"java/util/List,I,,+aget(I)O java/util/ArrayList,C,,java/util/List,+.get(I)O lib/Base,C",
+        LIBRARY,
         b"lib/Base interface java/util/List.get(I)O",
         b"java/util/List.get(I)O",
     ),
@@ -358,21 +478,34 @@ fn resolves_methods(rt: HostRuntime) -> Result<(), Fail> {
 // ---- overriding
 
 /// Worlds, each with two methods and whether the first overrides the second.
-static OVERRIDING: [(&[u8], &[u8], bool); 10] = [
-    (b"a/P,C,,~.m b/Q,C,a/P,+.m", b"b/Q.m a/P.m", false),
+static OVERRIDING: [(&[u8], &[u8], bool); 14] = [
+    // a method overrides itself
+    (b"a/P,C,,-.m a/Q,C", b"a/P.m a/P.m", true),
+    // and one of a superclass or superinterface with its name and descriptor
+    (b"a/P,C,,+.m b/Q,C,a/P,+.m", b"b/Q.m a/P.m", true),
+    (b"a/I,I,,+am a/C,C,,a/I,+.m", b"a/C.m a/I.m", true),
+    (b"a/P,C,,+.m b/Q,C,a/P,+.m", b"a/P.m b/Q.m", false),
+    (b"a/P,C,,+.m a/Q,C,,+.m", b"a/Q.m a/P.m", false),
+    (b"a/P,C,,+.m a/Q,C,a/P,+.m(I)O", b"a/Q.m(I)O a/P.m", false),
+    // where neither is private or static
+    (b"a/P,C,,-.m a/Q,C,a/P,+.m", b"a/Q.m a/P.m", false),
+    (b"a/P,C,,+.m a/Q,C,a/P,-.m", b"a/Q.m a/P.m", false),
+    (b"a/P,C,,+sm a/Q,C,a/P,+sm", b"a/Q.m a/P.m", false),
+    // and the upper one is public, protected, or package-private in the same package
+    (b"a/P,C,,#.m b/Q,C,a/P,#.m", b"b/Q.m a/P.m", true),
     (b"a/P,C,,~.m a/Q,C,a/P,+.m", b"a/Q.m a/P.m", true),
+    (b"a/P,C,,~.m b/Q,C,a/P,+.m", b"b/Q.m a/P.m", false),
+    // or through a third method
     (
         b"a/P,C,,~.m a/Q,C,a/P,+.m b/R,C,a/Q,+.m",
         b"b/R.m a/P.m",
         true,
     ),
-    (b"a/P,C,,#.m b/Q,C,a/P,#.m", b"b/Q.m a/P.m", true),
-    (b"a/P,C,,+.m b/Q,C,a/P,+.m", b"a/P.m b/Q.m", false),
-    (b"a/P,C,,-.m a/Q,C,a/P,+.m", b"a/Q.m a/P.m", false),
-    (b"a/P,C,,-.m a/Q,C", b"a/P.m a/P.m", true),
-    (b"a/P,C,,+.m a/Q,C,a/P,+.m(I)O", b"a/Q.m(I)O a/P.m", false),
-    (b"a/P,C,,+.m a/Q,C,,+.m", b"a/Q.m a/P.m", false),
-    (b"a/P,C,,+sm a/Q,C,a/P,+sm", b"a/Q.m a/P.m", false),
+    (
+        b"a/P,C,,~.m b/Q,C,a/P,+.m b/R,C,b/Q,+.m",
+        b"b/R.m a/P.m",
+        false,
+    ),
 ];
 
 /// Whether the first method of a line overrides the second.
@@ -402,10 +535,10 @@ fn tells_overriding(rt: HostRuntime) -> Result<(), Fail> {
 
 // ---- selection
 
-/// Worlds, each with a call and what it runs: of a method on an object of a class, or by a reference that a
-/// class has.
-static SELECTED: [(&[u8], &[u8], &[u8]); 23] = [
-    // the nearest declaration, from the class up, that overrides the method
+/// Worlds, each with a call and what it runs: of a method on an object of a class, or, for `invokespecial`, of
+/// a method in a class, by a reference to that method, or by the one that stands behind it.
+static SELECTED: [(&[u8], &[u8], &[u8]); 30] = [
+    // invokevirtual: the nearest declaration, from the class up, that overrides the method
     (
         b"a/P,C,,+.m a/Q,C,a/P,+.m a/C,C,a/Q",
         b"virtual a/C a/P.m",
@@ -417,6 +550,11 @@ static SELECTED: [(&[u8], &[u8], &[u8]); 23] = [
         b"a/C.m",
     ),
     (b"a/P,C,,~.m b/Q,C,a/P,+.m", b"virtual b/Q a/P.m", b"a/P.m"),
+    (
+        b"a/P,C,,~.m a/Q,C,a/P,+.m b/R,C,a/Q,+.m",
+        b"virtual b/R a/P.m",
+        b"b/R.m",
+    ),
     (b"a/P,C,,+.m a/C,C,a/P,-.m", b"virtual a/C a/P.m", b"a/P.m"),
     (b"a/P,C,,+.m a/C,C,a/P,+sm", b"virtual a/C a/P.m", b"a/P.m"),
     (b"a/P,C,,+.m a/C,C,a/P,+am", b"virtual a/C a/P.m", b"none"),
@@ -425,11 +563,16 @@ static SELECTED: [(&[u8], &[u8], &[u8]); 23] = [
         b"virtual a/C a/P.m",
         b"a/P.m",
     ),
-    // then the single default among the maximally specific superinterface methods
+    // then the one maximally specific superinterface method that isn't abstract, if there is one
     (
         b"a/I,I,,+.m a/J,I,,a/I,+.m a/C,C,,a/I,a/J",
         b"virtual a/C a/J.m",
         b"a/J.m",
+    ),
+    (
+        b"a/I,I,,+.m a/P,C,,a/I a/C,C,a/P",
+        b"virtual a/C a/I.m",
+        b"a/I.m",
     ),
     (
         b"a/I,I,,+.m a/J,I,,+.m a/C,C,,a/J,a/I",
@@ -441,7 +584,7 @@ static SELECTED: [(&[u8], &[u8], &[u8]); 23] = [
         b"virtual a/C a/J.m",
         b"a/J.m",
     ),
-    // on an interface, by name and descriptor alone
+    // invokeinterface: by name and descriptor alone
     (
         b"a/I,I,,+.m a/P,C,,+.m a/C,C,a/P,a/I",
         b"interface a/C a/I.m",
@@ -468,13 +611,13 @@ static SELECTED: [(&[u8], &[u8], &[u8]); 23] = [
         b"a/I.m",
     ),
     (
-        b"java/util/List,I,,+aget(I)O java/util/ArrayList,C,,java/util/List,+.get(I)O",
+        LIBRARY,
         b"interface java/util/ArrayList java/util/List.get(I)O",
         b"java/util/ArrayList.get(I)O",
     ),
     // invokespecial: from the direct superclass for a method of a superclass, or else from the named type
     (
-        b"lib/Base,C,,+.<init>,+.m",
+        LIBRARY,
         b"special lib/Base java/lang/Object.<init>",
         b"java/lang/Object.<init>",
     ),
@@ -484,7 +627,17 @@ static SELECTED: [(&[u8], &[u8], &[u8]); 23] = [
         b"a/Q.m",
     ),
     (
+        b"a/P,C,,~.m b/Q,C,a/P,+.m a/C,C,b/Q,+.m",
+        b"special a/C a/P.m",
+        b"b/Q.m",
+    ),
+    (
         b"a/P,C,,+.m a/Q,C,a/P,+sm a/C,C,a/Q,+.m",
+        b"special a/C a/P.m",
+        b"a/P.m",
+    ),
+    (
+        b"a/P,C,,+.m a/Q,C,a/P,-.m a/C,C,a/Q,+.m",
         b"special a/C a/P.m",
         b"a/P.m",
     ),
@@ -494,17 +647,29 @@ static SELECTED: [(&[u8], &[u8], &[u8]); 23] = [
         b"a/P.<init>",
     ),
     (b"a/C,C,,-.m", b"special a/C a/C.m", b"a/C.m"),
-    (b"a/I,I,,+.m a/C,C,,a/I,+.m", b"special a/C a/I.m", b"a/I.m"),
     (b"a/P,C,,+am a/C,C,a/P,+.m", b"special a/C a/P.m", b"none"),
+    // and from an interface: its own method, Object's public one, one of its superinterfaces
+    (b"a/I,I,,+.m a/C,C,,a/I,+.m", b"special a/C a/I.m", b"a/I.m"),
+    (b"a/I,I,,+am a/C,C,,a/I,+.m", b"special a/C a/I.m", b"none"),
+    (
+        b"a/I,I a/C,C,,a/I",
+        b"special a/C java/lang/Object.toString()S a/I.toString()S",
+        b"java/lang/Object.toString()S",
+    ),
+    (
+        b"a/J,I,,+.m a/I,I,,a/J a/C,C,,a/I",
+        b"special a/C a/J.m a/I.m",
+        b"a/J.m",
+    ),
 ];
 
-/// What a call runs, of a line of its kind, the class and the method, by which the reference goes too.
+/// What a call runs, of a line of its kind, the class, the method and the reference.
 fn select(alloc: Global, world: &World, line: &[u8]) -> Result<Option<MethodId>, AllocError> {
     let mut words = line.split(is_space);
     let kind = words.next().unwrap_or(b"");
     let class = Name::from_slice(alloc, words.next().unwrap_or(b""))?;
     let text = words.next().unwrap_or(b"");
-    let r = method_ref_of(alloc, text)?;
+    let r = method_ref_of(alloc, words.next().unwrap_or(text))?;
     let Some(c) = world.class(&class) else {
         return Ok(None);
     };
@@ -536,8 +701,8 @@ fn selects_methods(rt: HostRuntime) -> Result<(), Fail> {
 // ---- resolution of fields
 
 /// Worlds, each with a class, a field that it has a reference to, and the class in which it is found.
-static FIELDS: [(&[u8], &[u8], &[u8]); 9] = [
-    // the class, then its superinterfaces, then its superclass
+static FIELDS: [(&[u8], &[u8], &[u8]); 12] = [
+    // JVMS 5.4.3.2: the class, then its superinterfaces, then its superclass, each with all above it
     (
         b"a/P,C,,+.x:a/T a/I,I,,+sx:a/T a/C,C,a/P,a/I,+.x:a/T",
         b"a/C a/C.x:a/T",
@@ -549,11 +714,23 @@ static FIELDS: [(&[u8], &[u8], &[u8]); 9] = [
         b"a/I",
     ),
     (
+        b"a/K,I,,+sx:a/T a/J,I,,a/K a/I,I,,+sx:a/T a/C,C,,a/J,a/I",
+        b"a/C a/C.x:a/T",
+        b"a/K",
+    ),
+    (
+        b"a/I,I a/K,I,,+sx:a/T a/P,C,,a/K a/C,C,a/P,a/I",
+        b"a/C a/C.x:a/T",
+        b"a/K",
+    ),
+    (
         b"a/P,C,,+.x:a/T a/I,I a/C,C,a/P,a/I",
         b"a/C a/C.x:a/T",
         b"a/P",
     ),
     (b"a/C,C,,+.x:a/T", b"a/C a/C.x:a/S", b"NotFound"),
+    (b"a/C,C,,+.x:a/T", b"a/C a/Z.x:a/T", b"NotFound"),
+    // and it has to be accessible
     (b"a/P,C,,-.x:a/T a/C,C", b"a/C a/P.x:a/T", b"NoAccess"),
     (b"a/P,C,,~.x:a/T b/C,C,a/P", b"b/C a/P.x:a/T", b"NoAccess"),
     (b"a/P,C,,#.x:a/T b/C,C,a/P", b"b/C b/C.x:a/T", b"a/P"),
@@ -563,7 +740,7 @@ static FIELDS: [(&[u8], &[u8], &[u8]); 9] = [
         b"NoAccess",
     ),
     (
-        b"java/io/PrintStream,C java/lang/System,C,,+sout:java/io/PrintStream lib/Base,C",
+        LIBRARY,
         b"lib/Base java/lang/System.out:java/io/PrintStream",
         b"java/lang/System",
     ),
@@ -602,6 +779,40 @@ fn resolves_fields(rt: HostRuntime) -> Result<(), Fail> {
     for (k, (line, call, wanted)) in FIELDS.iter().enumerate() {
         let world = build(alloc, line)?;
         assert!(rt; finds(alloc, &world, call, wanted)?, "row {k}");
+    }
+    Ok(())
+}
+
+// ---- access to classes
+
+/// Worlds, each with a class, another one, and whether the second is accessible from the first (JVMS 5.4.4).
+static ACCESSIBLE: [(&[u8], &[u8], bool); 4] = [
+    (b"a/C,C b/D,C", b"a/C b/D", true),
+    (b"a/C,C a/D,P", b"a/C a/D", true),
+    (b"a/C,C b/D,P", b"a/C b/D", false),
+    (b"a/C,C a/b/D,P", b"a/C a/b/D", false),
+];
+
+/// Whether the second class of a line is accessible from the first.
+fn line_accesses(alloc: Global, world: &World, line: &[u8]) -> Result<Option<bool>, AllocError> {
+    let mut words = line.split(is_space);
+    let from = Name::from_slice(alloc, words.next().unwrap_or(b""))?;
+    let class = Name::from_slice(alloc, words.next().unwrap_or(b""))?;
+    match (world.class(&from), world.class(&class)) {
+        (Some(from), Some(c)) => Ok(Some(is_class_accessible(world, from, c))),
+        _ => Ok(None),
+    }
+}
+
+#[test]
+fn tells_access_to_classes(rt: HostRuntime) -> Result<(), Fail> {
+    let alloc = rt.alloc();
+    for (k, (line, classes, wanted)) in ACCESSIBLE.iter().enumerate() {
+        let world = build(alloc, line)?;
+        assert!(rt;
+            line_accesses(alloc, &world, classes)? == Some(*wanted),
+            "row {k}"
+        );
     }
     Ok(())
 }

@@ -1,21 +1,17 @@
-use Rattle.std.proofs.Common.{arith, refl, ap, ◌∙◌}
-use Rattle.std.specs.Prelude.{not}
-use Rattle.av_cli.proofs.CallGraph.{IsCallGraph-lines}
-use Rattle.av_cli.proofs.Classified.{malformed_out, no_main, has_main, lacks_main}
+use Rattle.std.proofs.lemmas.Result.{err_from_is_err_and}
+use Rattle.av_cli.proofs.Graphs.{call_graph_of}
 use Rattle.av_cli.proofs.graph.call_graph.Goals as goal
 
-pub returns-in-Err-Malformed : goal.returns-in-Err-Malformed
-returns-in-Err-Malformed c =
-    (λ large. omega (arith, large, c.if-bytes-gt-FILE_LIMIT.false), c.if-not-has_magic.ensures.0 refl, malformed_out c.args.name.now c.args.bytes.now c.in-Err-Malformed.field-0 c.in-Err-Malformed.field-0-is c.in-Err-Malformed.ensures.malformed)
+pub returns-in_err-class : goal.returns-in_err-class
+returns-in_err-class c =
+    let p = err_from_is_err_and c.from_residual.result c.from_residual.ensures.1 in
+    rw (p.1, p.2) c.in_err-class.ensures
 
-pub returns-then-is_none : goal.returns-then-is_none
-returns-then-is_none c =
-    lacks_main c.args.name.now c.args.bytes.now c.in-Ok.class c.one_static_class.ensures c.in-Ok.ensures.found
-    (no_main c.main_place.result c.in-Ok.class (c.is_none.ensures ∙ ap not c.if-is_none.true) c.main_place.ensures.none)
+pub returns-in_err-lines : goal.returns-in_err-lines
+returns-in_err-lines c =
+    let p = err_from_is_err_and c.from_residual-in_err-lines.result c.from_residual-in_err-lines.ensures.1 in
+    rw (p.1, p.2) tt
 
-pub returns-in-Ok-class_lines : goal.returns-in-Ok-class_lines
-returns-in-Ok-class_lines c =
-    IsCallGraph-lines c.args.name.now c.args.bytes.now c.in-Ok.class c.in-Ok-class_lines.lines.keys c.in-Ok.ensures.found
-    (λ other form. c.one_static_class.ensures c.args.name.now c.args.bytes.now other c.in-Ok.class form c.in-Ok.ensures.found)
-    (has_main c.main_place.result c.in-Ok.class (c.is_none.ensures ∙ ap not c.if-is_none.false) c.main_place.ensures.found)
-    c.in-Ok-class_lines.ensures
+pub returns : goal.returns
+returns c =
+    call_graph_of c.args.name.now c.args.bytes.now c.in_ok-class.class c.in_ok-lines.lines.keys c.one_object_class.ensures c.in_ok-class.ensures c.in_ok-lines.ensures

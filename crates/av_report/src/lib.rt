@@ -1,0 +1,4 @@
+//! The report of a program: the printed lines of its facts.
+#![tactic(auto)]
+
+pub mod first;
