@@ -21,12 +21,12 @@ program, folder, rounds, work = sys.argv[1], sys.argv[2], int(sys.argv[3]), sys.
 
 
 def run(words):
-    # seconds, peak kilobytes and what was printed
+    # seconds, peak memory where the command `time` is installed, and what was printed
+    timed = ["time", "-f", "%M"] if shutil.which("time") else []
     begin = time.monotonic()
-    child = subprocess.Popen(words, stdout=subprocess.PIPE, stderr=subprocess.DEVNULL)
-    out = child.stdout.read()
-    _, _, usage = os.wait4(child.pid, 0)
-    return time.monotonic() - begin, usage.ru_maxrss, out
+    child = subprocess.run(timed + words, stdout=subprocess.PIPE, stderr=subprocess.PIPE)
+    seconds = time.monotonic() - begin
+    return seconds, child.stderr.split()[-1].decode() + " KiB" if timed else "unknown", child.stdout
 
 
 def rate(what, times, path):
@@ -46,12 +46,12 @@ if shutil.which("javap"):
     theirs = sum(map(os.path.getsize, files)) / seconds / 1e6
 for what in ("read", "again"):
     ours, size, peak = rate(what, rounds, folder)
-    line = "%s: %d files, %d bytes, %.0f MB/s, peak %d KiB" % (what, len(files), size, ours, peak)
+    line = "%s: %d files, %d bytes, %.0f MB/s, peak %s" % (what, len(files), size, ours, peak)
     print(line + (", javap %.2f MB/s, ratio %.0f" % (theirs, ours / theirs) if theirs else ", no JDK"))
 
 for n in (5000, 10000, 20000):
     ours, size, peak = rate("read", 10, "%s/chain%d.class" % (work, n))
-    print("chain n=%d: %d bytes, %.1f MB/s, peak %d KiB" % (n, size, ours, peak))
+    print("chain n=%d: %d bytes, %.1f MB/s, peak %s" % (n, size, ours, peak))
 
 # a class `A` with nothing behind one of its counts
 most = b"\xff\xff"
@@ -75,5 +75,5 @@ for name, text in hostile.items():
     with open(path, "wb") as out:
         out.write(text)
     seconds, peak, _ = run([program, "read", "10000", path])
-    print("greatest count of %s: %d bytes, %.1f microseconds, peak %d KiB" % (name, len(text), seconds * 100, peak))
+    print("greatest count of %s: %d bytes, %.1f microseconds, peak %s" % (name, len(text), seconds * 100, peak))
 PY
