@@ -1,2 +1,17 @@
+pub mod Args
+pub mod Bits
+pub mod Deciding
+pub mod Failing
+pub mod Firsts
 pub mod HeldCells
+pub mod Laying
+pub mod Leading
+pub mod Many
+pub mod Naming
+pub mod Numbers
 pub mod OneEach
+pub mod Refusing
+pub mod RowLoops
+pub mod Spelled
+pub mod SpelledInsns
+pub mod SpelledSwitches
