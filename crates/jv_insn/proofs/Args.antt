@@ -1,17 +1,14 @@
 -- The local variable that an instruction names goes by how it is written.
-use Rattle.std.proofs.Common.{◌≡◌, ℕ, ℤ, Bool, List, Option, Some, refl, sym, ap, ◌∙◌}
-use Rattle.jv_table.specs.CodeRows.{OpForm}
+use Rattle.std.proofs.Common.{◌≡◌, ℕ, List, refl, sym, ◌∙◌}
 use Rattle.jv_table.specs.declared.code_tables.Form.{Form}
 use Rattle.jv_table.specs.declared.code_tables.Form.TheVariants as forms
 use Rattle.jv_types.specs.declared.instruction.Arg.{Arg}
 use Rattle.jv_types.specs.declared.instruction.Arg.TheVariants as args
-use Rattle.jv_types.specs.declared.instruction.Insn.{Insn}
 use Rattle.jv_pool.specs.declared.item.PoolItem.{PoolItem}
 use Rattle.jv_insn.specs.declared.written.Operands.{Operands}
 use Rattle.jv_insn.specs.declared.written.Operands.TheVariants.{Nothing, Local, Small, Inc, Index, Called, Site, NewPrim, Multi, Jump, Table, Lookup}
-use Rattle.jv_insn.specs.declared.written.Written.{Written}
-use Rattle.jv_insn.specs.Effects.{op_row, local_of}
-use Rattle.jv_insn.specs.Meanings.{NamesArg, NamesOperands, IsInsn}
+use Rattle.jv_insn.specs.Effects.{local_of}
+use Rattle.jv_insn.specs.Meanings.{NamesArg, NamesOperands}
 
 -- the local variable of an opcode alone
 abbrev by_op : ℕ → ℕ

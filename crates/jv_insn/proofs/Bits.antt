@@ -1,5 +1,5 @@
 -- A number and its bits.
-use Rattle.std.proofs.Common.{◌≡◌, ℤ, subst}
+use Rattle.std.proofs.Common.{ℤ, subst}
 use Rattle.std.specs.Int.{w32}
 use Rattle.std.proofs.lemmas.Int.{to_z-of_z}
 use mir.Val.{SFits, to_z, of_z}

@@ -1,5 +1,5 @@
 -- What the parts of a code answered.
-use Rattle.std.proofs.Common.{◌≡◌, ℕ, true, List, length, Ok, Err, Result, sym, subst}
+use Rattle.std.proofs.Common.{◌≡◌, ℕ, true, List, Ok, Err, Result, subst}
 use Rattle.std.specs.List.{AllZip}
 use Rattle.std.specs.declared.vec.Vec.{Vec}
 use Rattle.jv_types.specs.Bodies.{rises_from}

@@ -1,12 +1,11 @@
 -- Instructions one behind the other: as a loop lays them, and that there is one way.
 use Rattle.std.proofs.Common.{◌≡◌, ℕ, ◌+◌, ◌-◌, ◌<◌, ◌≤◌, Bool, true, false, eqb, leb, cond, List, [], ◌∷◌, ◌++◌, length, Option, Some, None, IsSome, refl, sym, ap, subst, ◌∙◌, append_assoc, length-append, arith}
 use Rattle.std.proofs.lemmas.List.{append-nil}
-use Rattle.std.specs.Prelude.{IsTrue}
 use Rattle.std.proofs.lemmas.Bool.Decides.{nat_tests}
 use Rattle.jv_types.specs.Bodies.{IsStart, rises_from, at_offset}
 use Rattle.jv_pool.proofs.Fronts.{some_is}
 use Rattle.jv_insn.specs.declared.written.Written.{Written}
-use Rattle.jv_insn.specs.Layouts.{head_text, IsInsnText, BeginsWithInsn, NoInsn, Ends, AtEnd, BreaksOff, Lays}
+use Rattle.jv_insn.specs.Layouts.{head_text, BeginsWithInsn, NoInsn, Ends, AtEnd, BreaksOff, Lays}
 use Rattle.jv_insn.specs.Reading.{written_at}
 use Rattle.jv_insn.specs.Rows.{AreRows}
 use Rattle.jv_insn.proofs.SpelledInsns.{written_takes, written_again}

@@ -1,8 +1,6 @@
 -- Where offsets lead is one place.
-use Rattle.std.proofs.Common.{◌≡◌, ℕ, zero, suc, ◌+◌, ◌≤◌, ◌<◌, ℤ, pos, ◌+ℤ◌, List, [], ◌∷◌, ◌++◌, length, get_or, take, Option, Some, None, refl, sym, ap, subst, ◌∙◌, arith}
+use Rattle.std.proofs.Common.{◌≡◌, ℕ, ◌<◌, ℤ, pos, ◌+ℤ◌, List, [], ◌∷◌, length, get_or, refl, sym, ap, ◌∙◌}
 use Rattle.std.specs.List.{AllZip}
-use Rattle.std.proofs.lemmas.List.{get_or-take, length-take}
-use Rattle.jv_types.specs.Bodies.{IsStart}
 use Rattle.jv_insn.specs.Meanings.{LeadsTo, LeadsCase}
 use Rattle.jv_insn.proofs.RowLoops.{zip_at}
 

@@ -1,8 +1,7 @@
 -- What an index of the pool names is one thing.
-use Rattle.std.proofs.Common.{◌≡◌, ℕ, ◌≤◌, ◌<◌, Bool, true, false, List, [], ◌∷◌, ◌++◌, Option, Some, None, refl, sym, ap, subst, ◌∙◌, arith}
-use Rattle.std.specs.Prelude.{IsTrue, option_and_then, option_map}
+use Rattle.std.proofs.Common.{◌≡◌, ℕ, Bool, true, false, List, ◌∷◌, Option, Some, None, refl, sym, ap, subst, ◌∙◌}
+use Rattle.std.specs.Prelude.{option_and_then, option_map}
 use Rattle.jv_types.specs.NameForms.{is_class_name}
-use Rattle.jv_types.specs.declared.desc.PrimType.{PrimType}
 use Rattle.jv_types.specs.declared.desc.RefType.{RefType, Class, PrimArray, Array'}
 use Rattle.jv_types.specs.declared.desc.Desc.{Desc}
 use Rattle.jv_types.specs.declared.desc.Desc.TheVariants as descs
@@ -11,7 +10,7 @@ use Rattle.jv_types.specs.declared.references.FieldRef.{FieldRef}
 use Rattle.jv_types.specs.declared.references.MethodRef.{MethodRef}
 use Rattle.jv_types.specs.declared.instruction.Const.{Const}
 use Rattle.jv_types.specs.declared.instruction.Const.TheVariants as consts
-use Rattle.jv_desc.specs.Texts.{IsFieldText, IsMethodText, ref_text, IsRef}
+use Rattle.jv_desc.specs.Texts.{IsFieldText, IsMethodText}
 use Rattle.jv_desc.proofs.Agreement.{one_field, one_method}
 use Rattle.jv_pool.specs.declared.item.PoolItem.{PoolItem}
 use Rattle.jv_pool.specs.declared.item.PoolItem.TheVariants as items

@@ -1,8 +1,8 @@
 -- What the cursor found is what reading lists gives.
-use Rattle.std.proofs.Common.{◌≡◌, ℕ, ◌+◌, ◌*◌, ◌<◌, ◌^◌, true, false, ltb, List, [], ◌∷◌, ◌++◌, length, take, drop, Option, Some, None, refl, sym, ap, subst, ◌∙◌, Bor, arith}
+use Rattle.std.proofs.Common.{◌≡◌, ℕ, ◌+◌, ◌*◌, ◌<◌, true, false, ltb, List, [], ◌∷◌, ◌++◌, length, take, drop, Option, Some, None, refl, sym, ap, ◌∙◌, Bor, arith}
 use Rattle.std.specs.Prelude.{IfSome, OnSome, IsNone, ok_or, ◌↔◌}
 use Rattle.std.proofs.lemmas.Bool.{ltb-true, lt-ltb}
-use Rattle.jv_bytes.specs.Numbers.{number_in, number_text, IsNumberText}
+use Rattle.jv_bytes.specs.Numbers.{number_in, number_text}
 use Rattle.jv_bytes.proofs.NumberLaws.{number_text-only, number_in-is, IsByteString-cons, no_bytes}
 use Rattle.jv_pool.specs.Reading.{u1_at, number_at, bytes_at}
 use Rattle.jv_pool.proofs.Fronts.{false_if, number_again, number_fits, number_short}

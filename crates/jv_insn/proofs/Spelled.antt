@@ -1,21 +1,17 @@
 -- What is read from the front is spelled so, and what is spelled so is read: the operands of an instruction.
-use Rattle.std.proofs.Common.{◌≡◌, ℕ, ◌+◌, ◌^◌, ◌<◌, ◌≤◌, ℤ, Bool, true, false, cond, ltb, List, [], ◌∷◌, ◌++◌, length, Option, Some, None, refl, sym, ap, subst, ◌∙◌, append_assoc, arith}
-use Rattle.std.specs.Prelude.{IsTrue, FitsSigned, int_le}
-use Rattle.std.specs.Int.{w32, cast_signed, cast_unsigned}
-use Rattle.std.specs.List.{flat_map, AllByRecursion}
+use Rattle.std.proofs.Common.{◌≡◌, ℕ, ◌^◌, ◌<◌, ℤ, true, cond, ltb, List, ◌++◌, Some, None, refl, sym, ap, ◌∙◌, append_assoc, arith}
+use Rattle.std.specs.Prelude.{FitsSigned, int_le}
+use Rattle.std.specs.Int.{w32, cast_unsigned}
 use Rattle.std.proofs.lemmas.Bool.{ltb-true, lt-ltb}
 use Rattle.std.proofs.lemmas.Int.{of_z-to_z, to_z-of_z}
 use mir.ValLaws.{of_z_fits}
 use borrow.Author.Gap.{read_sfits}
 use Rattle.jv_bytes.specs.Numbers.{number_text}
-use Rattle.jv_pool.specs.Reading.{◌>>=◌, number_at, bytes_at}
-use Rattle.jv_pool.proofs.Fronts.{bind_some, bind_is, given_as, joined, past_true, number_takes, number_again, bytes_take, bytes_again}
-use Rattle.jv_attr.specs.Reading.{many_at}
-use Rattle.jv_attr.proofs.Many.{many_take, many_again}
+use Rattle.jv_pool.specs.Reading.{◌>>=◌, number_at}
+use Rattle.jv_pool.proofs.Fronts.{bind_some, bind_is, given_as, joined, past_true, number_takes, number_again}
 use Rattle.jv_insn.specs.declared.written.Operands.{Operands}
-use Rattle.jv_insn.specs.declared.written.Operands.TheVariants.{Nothing, Table, Lookup}
-use Rattle.jv_insn.specs.Layouts.{Layout, Alone, One, Two, Three, TableSwitch, LookupSwitch, s4, s4_text, pair_text, IsPair, padding_at, span, IsOne, AreTwo, AreThree, IsTable, IsLookup, AreOperands}
-use Rattle.jv_insn.specs.Reading.{one_at, two_at, three_at, s4_at, pair_at, span_of, count_at, table_at, lookup_at, operands_at}
+use Rattle.jv_insn.specs.Layouts.{s4, s4_text, pair_text, IsPair, span, IsOne, AreTwo, AreThree}
+use Rattle.jv_insn.specs.Reading.{one_at, two_at, three_at, s4_at, pair_at, span_of, count_at}
 
 -- operands stand in front of what is left
 pub record Takes (P : List ℕ → Operands → Type 0) (bytes : List ℕ) (x : Operands × List ℕ) : Type 0 where

@@ -1,6 +1,6 @@
 -- An instruction that is read is spelled so, and what is spelled so is read.
-use Rattle.std.proofs.Common.{◌≡◌, ℕ, ◌+◌, ◌<◌, ◌≤◌, Bool, true, false, cond, eqb, List, [], ◌∷◌, ◌++◌, length, Option, Some, None, refl, sym, ap, subst, ◌∙◌, append_assoc, arith}
-use Rattle.std.specs.Prelude.{IsTrue, option_and_then}
+use Rattle.std.proofs.Common.{◌≡◌, ℕ, ◌+◌, Bool, true, false, cond, eqb, List, [], ◌∷◌, ◌++◌, Option, Some, None, refl, sym, ap, subst, ◌∙◌, append_assoc}
+use Rattle.std.specs.Prelude.{option_and_then}
 use Rattle.std.proofs.lemmas.Bool.{eqb-true}
 use Rattle.jv_table.specs.CodeRows.{OpForm, opcode_rows}
 use Rattle.jv_table.specs.declared.code_tables.Form.{Form}
@@ -11,7 +11,7 @@ use Rattle.jv_insn.specs.declared.written.Operands.{Operands}
 use Rattle.jv_insn.specs.declared.written.Operands.TheVariants.{Nothing, Local, Inc}
 use Rattle.jv_insn.specs.declared.written.Written.{Written}
 use Rattle.jv_insn.specs.Effects.{op_row}
-use Rattle.jv_insn.specs.Layouts.{Layout, Alone, One, Two, Three, TableSwitch, LookupSwitch, s2, layout_of, wide_layout_of, layout_for, AreOperands, IsOne, AreTwo, AreThree, IsTable, IsLookup, is_allowed, wide_op, head_text, IsInsnText, BeginsWithInsn}
+use Rattle.jv_insn.specs.Layouts.{Layout, Alone, One, Two, Three, TableSwitch, LookupSwitch, s2, layout_of, wide_layout_of, layout_for, AreOperands, is_allowed, wide_op, head_text, BeginsWithInsn}
 use Rattle.jv_insn.specs.Reading.{operands_at, laid_at, insn_of, plain_at, wide_at, written_at}
 use Rattle.jv_insn.proofs.Spelled.{Takes, one_takes, one_again, two_take, two_again, three_take, three_again}
 use Rattle.jv_insn.proofs.SpelledSwitches.{table_takes, table_again, lookup_takes, lookup_again}

@@ -1,6 +1,6 @@
 -- How an instruction is written (JVMS 6.5): its opcode, after the opcode of wide where it is under wide,
 -- and its operands.
-use Rattle.std.specs.Prelude.{◌≡◌, ◌<◌, ◌^◌, ◌+◌, ◌-◌, ◌%◌, ℕ, ℤ, Bool, true, false, IsTrue, IsSome, if◌then◌else◌, ◌==◌, ◌&&◌, nat_lt, is_some, int_le, int_lt, List, [], ◌∷◌, ◌++◌, length, Option, Some, None, option_and_then, ◌-ℤ◌, FitsSigned}
+use Rattle.std.specs.Prelude.{◌≡◌, ◌<◌, ◌^◌, ◌+◌, ◌-◌, ◌%◌, ℕ, ℤ, Bool, true, false, IsTrue, if◌then◌else◌, ◌==◌, ◌&&◌, nat_lt, is_some, int_le, int_lt, List, [], ◌∷◌, ◌++◌, length, Option, Some, None, option_and_then, ◌-ℤ◌, FitsSigned}
 use Rattle.std.proofs.Math.IntN.{nat_abs}
 use Rattle.std.specs.Int.{w8, w16, w32, cast_signed, cast_unsigned}
 use Rattle.std.specs.List.{flat_map, AllByRecursion}

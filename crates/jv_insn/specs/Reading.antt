@@ -3,8 +3,6 @@
 use Rattle.std.specs.Prelude.{◌≡◌, ◌+◌, ℕ, ℤ, Bool, true, false, if◌then◌else◌, ◌==◌, nat_lt, int_le, List, Option, Some, None, Result, Ok, Err}
 use Rattle.jv_pool.specs.Reading.{◌>>=◌, u1_at, number_at, bytes_at}
 use Rattle.jv_attr.specs.Reading.{many_at}
-use Rattle.jv_table.specs.CodeRows.{OpForm}
-use Rattle.jv_table.specs.declared.code_tables.Form.{Form}
 use Rattle.jv_insn.specs.declared.fault.Fault.{Fault}
 use Rattle.jv_insn.specs.declared.fault.Fault.TheVariants as faults
 use Rattle.jv_insn.specs.declared.written.Operands.{Operands}

@@ -1,5 +1,5 @@
 -- The rows of a code: its instructions as they are written, each with its offset.
-use Rattle.std.specs.Prelude.{◌≡◌, ◌<◌, ◌≤◌, ℕ, IsTrue, List, Result, Ok, Err, Option, Some, None, min}
+use Rattle.std.specs.Prelude.{◌<◌, ◌≤◌, ℕ, IsTrue, List, Result, Ok, Err, Option, Some, None, min}
 use Rattle.std.specs.declared.vec.Vec.{Vec}
 use Rattle.std.specs.List.{AllZip}
 use Rattle.jv_types.specs.Bodies.{IsStart, rises_from}

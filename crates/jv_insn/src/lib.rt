@@ -25,3 +25,6 @@ pub use laws::{
     rows_are_effects,
 };
 pub use written::{Operands, Written};
+
+#[cfg(test)]
+mod tests;

@@ -1,5 +1,5 @@
 -- A primitive type is none of a reference, and what isn't a descriptor is none of one.
-use Rattle.std.proofs.Common.{◌≡◌, ap, subst, Err}
+use Rattle.std.proofs.Common.{ap, subst, Err}
 use Rattle.jv_types.specs.declared.desc.Desc.TheVariants as descs
 use Rattle.jv_desc.specs.Texts.{IsFieldText}
 use Rattle.jv_insn.proofs.Refusing.{prim_is_no_ref}

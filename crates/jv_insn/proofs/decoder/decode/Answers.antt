@@ -1,8 +1,6 @@
 -- The least of the offsets at which the parts of a code fail.
-use Rattle.std.proofs.Common.{◌≡◌, true, length, sym, subst}
-use Rattle.jv_types.specs.Bodies.{rises_from}
+use Rattle.std.proofs.Common.{length, sym, subst}
 use Rattle.jv_insn.specs.Layouts.{Lays}
-use Rattle.jv_insn.specs.Rows.{AreRows}
 use Rattle.jv_insn.proofs.Laying.{laid_rows}
 use Rattle.jv_insn.proofs.Deciding.{insns_ok, insns_err, insns_rising, handlers_ok, handlers_err}
 use Rattle.jv_insn.proofs.Failing.{breaks_first, handler_first, insn_first, either_first}

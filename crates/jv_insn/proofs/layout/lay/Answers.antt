@@ -1,5 +1,5 @@
 -- Each turn of the loop is one instruction.
-use Rattle.std.proofs.Common.{◌≡◌, ◌-◌, ◌<◌, length, ap, sym, subst, arith}
+use Rattle.std.proofs.Common.{◌-◌, length, ap, arith}
 use Rattle.jv_insn.specs.Reading.{written_at}
 use Rattle.jv_insn.proofs.Many.{bad_none}
 use Rattle.jv_insn.proofs.Laying.{laid_goes_on, laid_breaks, laid_done, read_shorter}

@@ -1,5 +1,5 @@
 -- A method's class is that of its item.
-use Rattle.std.proofs.Common.{◌≡◌, sym, ◌∙◌}
+use Rattle.std.proofs.Common.{sym}
 use Rattle.jv_insn.specs.Meanings.{NamesType, NamesMethod}
 use Rattle.jv_insn.proofs.Naming.{method_class}
 use Rattle.jv_insn.proofs.Refusing.{none_for}

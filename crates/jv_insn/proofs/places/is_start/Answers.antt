@@ -1,5 +1,5 @@
 -- A search by halves finds the row of an offset.
-use Rattle.std.proofs.Common.{rules, sym, refl, ℕ, Bool, Option, Some, None, ◌≡◌, true, false, is_some}
+use Rattle.std.proofs.Common.{rules, sym, refl, ℕ, Option, Some, None, ◌≡◌, true, false, is_some}
 use Rattle.std.proofs.lemmas.Cmp.{ranked}
 use Rattle.std.proofs.lemmas.List.Sorted.{answers_always}
 use Rattle.jv_types.proofs.Starts.{at_offset-at, search_none}
