@@ -9,6 +9,7 @@ pub mod Leading
 pub mod Many
 pub mod Naming
 pub mod Numbers
+pub mod OneBody
 pub mod OneEach
 pub mod Refusing
 pub mod RowLoops

@@ -45,3 +45,9 @@ pub fn decoded_codes_fail_nowhere()
     ensures { (pool : List PoolItem) (max_stack max_locals : ℕ) (code : List ℕ) (handlers : List RawHandler) (body : Body) (pc : ℕ)
         → Decodes pool max_stack max_locals code handlers body → FailsAt pool max_locals code handlers pc → ⊥ }
 {}
+
+/// What a code spells is one body. This does nothing, and its contract is the law.
+pub fn codes_have_one_body()
+    ensures { (pool : List PoolItem) (max_stack max_locals : ℕ) (code : List ℕ) (handlers : List RawHandler) (a b : Body)
+        → Decodes pool max_stack max_locals code handlers a → Decodes pool max_stack max_locals code handlers b → a ≡ b }
+{}

@@ -21,8 +21,8 @@ mod written;
 pub use decoder::decode;
 pub use fault::BadCode;
 pub use laws::{
-    decoded_codes_fail_nowhere, held_cells_have_kinds, kind_safe_places_are_instructions,
-    rows_are_effects,
+    codes_have_one_body, decoded_codes_fail_nowhere, held_cells_have_kinds,
+    kind_safe_places_are_instructions, rows_are_effects,
 };
 pub use written::{Operands, Written};
 
