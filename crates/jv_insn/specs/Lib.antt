@@ -1,3 +1,10 @@
+pub mod Borrowed
+pub mod Decoding
 pub mod Effects
+pub mod Finding
 pub mod KindSafe
 pub mod Kinds
+pub mod Layouts
+pub mod Meanings
+pub mod Reading
+pub mod Rows

@@ -8,6 +8,10 @@ ghost use Rattle.jv_types.specs.Bodies.{IsStart, at_offset};
 ghost use Rattle.jv_types.specs.declared.body.Handler.{Handler};
 ghost use Rattle.jv_types.specs.declared.shapes.Shape.{Shape};
 ghost use Rattle.jv_types.specs.declared.frames.FramedBody.{FramedBody};
+ghost use Rattle.jv_types.specs.declared.raw_handler.RawHandler.{RawHandler};
+ghost use Rattle.jv_types.specs.declared.body.Body.{Body};
+ghost use Rattle.jv_pool.specs.declared.item.PoolItem.{PoolItem};
+ghost use Rattle.jv_insn.specs.Decoding.{Decodes, FailsAt};
 ghost use Rattle.jv_insn.specs.KindSafe.{IsKindSafe, Covers};
 ghost use Rattle.jv_insn.specs.Effects.{effect_of, op_row, decides_cells};
 ghost use Rattle.jv_insn.specs.Kinds.{HoldsCells, cell_words, kinds_after};
@@ -34,4 +38,16 @@ pub fn kind_safe_places_are_instructions()
     ensures handlers { (world : List Shape) (framed : FramedBody) (pc : ℕ) (handler : Handler) → IsKindSafe world framed
         → IsStart framed.body.insns pc → Contains framed.body.handlers handler → Covers handler pc → IsStart framed.body.insns handler.target }
     ensures entry { (world : List Shape) (framed : FramedBody) → IsKindSafe world framed → IsStart framed.body.insns 0 }
+{}
+
+/// A code that decodes fails at no offset. This does nothing, and its contract is the law.
+pub fn decoded_codes_fail_nowhere()
+    ensures { (pool : List PoolItem) (max_stack max_locals : ℕ) (code : List ℕ) (handlers : List RawHandler) (body : Body) (pc : ℕ)
+        → Decodes pool max_stack max_locals code handlers body → FailsAt pool max_locals code handlers pc → ⊥ }
+{}
+
+/// What a code spells is one body. This does nothing, and its contract is the law.
+pub fn codes_have_one_body()
+    ensures { (pool : List PoolItem) (max_stack max_locals : ℕ) (code : List ℕ) (handlers : List RawHandler) (a b : Body)
+        → Decodes pool max_stack max_locals code handlers a → Decodes pool max_stack max_locals code handlers b → a ≡ b }
 {}

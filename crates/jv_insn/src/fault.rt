@@ -1,0 +1,58 @@
+ghost use Rattle.std.specs.Prelude.{◌≡◌};
+ghost use Rattle.jv_insn.specs.declared.fault.BadCode.TheVariants as code;
+ghost use Rattle.jv_insn.specs.declared.fault.Fault.TheVariants as fault;
+
+use jv_desc::BadDesc;
+use std::alloc::{AllocError, AllocFailed};
+use thiserror::Error;
+
+/// Why a code was not decoded.
+#[derive(Clone, Copy, Debug, PartialEq, Eq, Error)]
+pub enum BadCode {
+    /// The code isn't well formed. The offset is the least at which it fails.
+    #[error("the code isn't well formed at {pc}")]
+    Bad { pc: u16 },
+    /// Memory is wanting.
+    #[error("out of memory")]
+    Memory,
+}
+
+impl From<AllocError> for BadCode {
+    ghost from_gives = { λ _ e. e ≡ code.Memory };
+
+    fn from(_e: AllocError) -> BadCode {
+        BadCode::Memory
+    }
+}
+
+impl<T: Drop> From<AllocFailed<T>> for BadCode {
+    ghost from_gives = { λ _ e. e ≡ code.Memory };
+
+    fn from(_e: AllocFailed<T>) -> BadCode {
+        BadCode::Memory
+    }
+}
+
+/// Why a part of a code was not read, or names nothing that it may name.
+#[derive(Clone, Copy, Debug, PartialEq, Eq)]
+pub enum Fault {
+    Bad,
+    /// Memory is wanting.
+    Memory,
+}
+
+impl From<AllocError> for Fault {
+    ghost from_gives = { λ _ e. e ≡ fault.Memory };
+
+    fn from(_e: AllocError) -> Fault {
+        Fault::Memory
+    }
+}
+
+impl<T: Drop> From<AllocFailed<T>> for Fault {
+    ghost from_gives = { λ _ e. e ≡ fault.Memory };
+
+    fn from(_e: AllocFailed<T>) -> Fault {
+        Fault::Memory
+    }
+}

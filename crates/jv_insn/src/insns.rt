@@ -1,0 +1,113 @@
+ghost use Rattle.std.specs.Prelude.{◌≡◌, ◌<◌, ◌↔◌, IsTrue, IfOk};
+ghost use Rattle.jv_insn.specs.Effects.{local_of};
+ghost use Rattle.jv_insn.specs.Meanings.{has_local, IsInsn};
+ghost use Rattle.jv_insn.specs.Rows.{AreRows, AreInsns};
+ghost use Rattle.jv_insn.specs.Finding.{Finds};
+
+use crate::fault::Fault;
+use crate::operands::arg_of;
+use crate::written::Written;
+use jv_pool::Pool;
+use jv_table::opcode;
+use jv_types::{Arg, Insn};
+use std::alloc::{AllocError, Global};
+
+/// The last opcode that loads a local variable.
+const LAST_LOAD: u8 = 45;
+
+/// The first opcodes that load and store the local variable 0 without an operand.
+const FIRST_LOAD: u8 = 26;
+
+const FIRST_STORE: u8 = 59;
+
+/// Whether an instruction names a local variable.
+fn has_local(op: u8) -> bool
+    ensures { result ≡ has_local op }
+{
+    matches!(op, 21..=LAST_LOAD | 54..=78 | 132 | 169)
+}
+
+/// The local variable that an instruction names.
+fn local_of(op: u8, arg: &Arg) -> u16
+    ensures { result ≡ local_of op arg.now }
+{
+    match arg {
+        Arg::Local(local) => *local,
+        Arg::Inc(local, _) => *local,
+        _ => {
+            let first = if op <= LAST_LOAD {
+                FIRST_LOAD
+            } else {
+                FIRST_STORE
+            };
+            u16::from(op.saturating_sub(first) % 4)
+        }
+    }
+}
+
+/// Whether the local variable that an instruction names, if it names one, is among so many.
+fn fits_locals(op: u8, arg: &Arg, max_locals: u16) -> bool
+    ensures { IsTrue result ↔ (IsTrue (has_local op) → local_of op arg.now < max_locals) }
+{
+    !has_local(op) || local_of(op, arg) < max_locals
+}
+
+/// What an instruction is that is written at an offset of the code.
+fn insn_of(
+    alloc: Global,
+    pool: &Pool,
+    max_locals: u16,
+    rows: &[(u16, Written)],
+    pc: u16,
+    written: &Written,
+) -> Result<Insn, Fault>
+    requires { AreRows rows.now }
+    ensures { Finds (λ insn. IsInsn pool.now max_locals rows.now pc written.now insn) result }
+{
+    let Some(row) = opcode(written.op) else {
+        return Err(Fault::Bad);
+    };
+    match arg_of(
+        alloc,
+        pool,
+        rows,
+        pc,
+        written.op,
+        row.form,
+        &written.operands,
+    ) {
+        Ok(arg) => {
+            if fits_locals(written.op, &arg, max_locals) {
+                Ok(Insn {
+                    op: written.op,
+                    wide: written.wide,
+                    arg,
+                })
+            } else {
+                Err(Fault::Bad)
+            }
+        }
+        Err(e) => Err(e),
+    }
+}
+
+/// What the instructions are that are written, or the offset of the first one that is none.
+pub fn insns_of(
+    alloc: Global,
+    pool: &Pool,
+    max_locals: u16,
+    rows: &[(u16, Written)],
+) -> Result<Result<Vec<(u16, Insn)>, u16>, AllocError>
+    requires { AreRows rows.now }
+    ensures { IfOk result (λ insns. AreInsns pool.now max_locals rows.now insns) }
+{
+    let mut insns = Vec::new(alloc);
+    for row in rows {
+        match insn_of(alloc, pool, max_locals, rows, row.0, &row.1) {
+            Ok(insn) => insns.push((row.0, insn))?,
+            Err(Fault::Bad) => return Ok(Err(row.0)),
+            Err(Fault::Memory) => return Err(AllocError),
+        }
+    }
+    Ok(Ok(insns))
+}

@@ -1,0 +1,230 @@
+ghost use Rattle.std.specs.Prelude.{◌≤◌, length};
+
+use super::*;
+use jv_pool::{Pool, PoolItem};
+use jv_types::{
+    Arg, Body, Const, Desc, FieldRef, MethodDesc, MethodRef, Name, Prim, RawHandler, RefType, Seq,
+};
+use sqlite_items::Boxed;
+use std::alloc::{AllocError, Global};
+use std::test::*;
+
+/// What a code without handlers is decoded as, over an empty pool and with four local variables.
+fn plain(alloc: Global, code: &[u8]) -> Result<Body, BadCode>
+    requires { length code.now ≤ 65535 }
+{
+    let pool = Pool::from_items(Vec::new(alloc));
+    decode(alloc, code, &pool, [].as_slice(), 9, 4)
+}
+
+fn text(alloc: Global, bytes: &[u8]) -> Result<PoolItem, AllocError> {
+    Ok(PoolItem::Utf8(Seq::from_vec(Vec::from_slice(alloc, bytes)?)))
+}
+
+/// A pool with each item that an instruction may name.
+fn pool(alloc: Global) -> Result<Pool, AllocError> {
+    Ok(Pool::from_items(vec![in alloc;
+        text(alloc, b"A".as_slice())?,
+        PoolItem::Class(1),
+        text(alloc, b"f".as_slice())?,
+        text(alloc, b"I".as_slice())?,
+        PoolItem::NameAndType(3, 4),
+        PoolItem::Field(2, 5),
+        text(alloc, b"(J)V".as_slice())?,
+        PoolItem::NameAndType(3, 7),
+        PoolItem::Method(2, 8),
+        PoolItem::InterfaceMethod(2, 8),
+        PoolItem::Integer(-1),
+        PoolItem::Double(7),
+        PoolItem::Hole,
+        text(alloc, b"[[I".as_slice())?,
+        PoolItem::Class(14),
+        PoolItem::InvokeDynamic(0, 8),
+    ]?))
+}
+
+fn class(alloc: Global) -> Result<RefType, AllocError> {
+    Ok(RefType::Class(Name::from_slice(alloc, b"A".as_slice())?))
+}
+
+fn field(alloc: Global) -> Result<Arg, AllocError> {
+    Ok(Arg::Field(FieldRef {
+        class: Name::from_slice(alloc, b"A".as_slice())?,
+        name: Name::from_slice(alloc, b"f".as_slice())?,
+        desc: Desc::Prim(Prim::Int),
+    }))
+}
+
+fn method(alloc: Global, interface: bool) -> Result<Arg, AllocError> {
+    Ok(Arg::Method(MethodRef {
+        class: class(alloc)?,
+        name: Name::from_slice(alloc, b"f".as_slice())?,
+        desc: MethodDesc {
+            params: Seq::from_vec(vec![in alloc; Desc::Prim(Prim::Long)]?),
+            result: None,
+        },
+        interface,
+    }))
+}
+
+fn matrix(alloc: Global) -> Result<Arg, AllocError> {
+    let row = RefType::PrimArray(Prim::Int);
+    Ok(Arg::Multi(RefType::Array(Boxed::new(alloc, row)?), 2))
+}
+
+// The opcodes from the first to the last one, with the bytes that follow, and what they are: bytes that are
+// no operands are nops.
+type Case = (u8, u8, [u8; 4], Arg);
+
+fn cases(alloc: Global) -> Result<Vec<Case>, AllocError> {
+    Ok(vec![in alloc;
+        (0, 15, [0; 4], Arg::Nothing),
+        (16, 16, [0xFF, 0, 0, 0], Arg::Small(-1)),
+        (17, 17, [0xFF, 0x7F, 0, 0], Arg::Small(-129)),
+        (18, 18, [11, 0, 0, 0], Arg::Constant(Const::Int(-1))),
+        (
+            19,
+            19,
+            [0, 2, 0, 0],
+            Arg::Constant(Const::Class(class(alloc)?))
+        ),
+        (20, 20, [0, 12, 0, 0], Arg::Constant(Const::Double(7))),
+        (21, 25, [3, 0, 0, 0], Arg::Local(3)),
+        (26, 53, [0; 4], Arg::Nothing),
+        (54, 58, [3, 0, 0, 0], Arg::Local(3)),
+        (59, 131, [0; 4], Arg::Nothing),
+        (132, 132, [2, 0x80, 0, 0], Arg::Inc(2, -128)),
+        (133, 152, [0; 4], Arg::Nothing),
+        (153, 168, [0, 4, 0, 0], Arg::Jump(4)),
+        (169, 169, [1, 0, 0, 0], Arg::Local(1)),
+        (172, 177, [0; 4], Arg::Nothing),
+        (178, 181, [0, 6, 0, 0], field(alloc)?),
+        (182, 184, [0, 9, 0, 0], method(alloc, false)?),
+        (185, 185, [0, 10, 3, 0], method(alloc, true)?),
+        (186, 186, [0, 16, 0, 0], Arg::Dynamic),
+        (187, 187, [0, 2, 0, 0], Arg::Class(class(alloc)?)),
+        (188, 188, [10, 0, 0, 0], Arg::NewPrim(Prim::Int)),
+        (189, 189, [0, 2, 0, 0], Arg::Class(class(alloc)?)),
+        (190, 191, [0; 4], Arg::Nothing),
+        (192, 193, [0, 2, 0, 0], Arg::Class(class(alloc)?)),
+        (194, 195, [0; 4], Arg::Nothing),
+        (197, 197, [0, 15, 2, 0], matrix(alloc)?),
+        (198, 199, [0, 3, 0, 0], Arg::Jump(3)),
+        (200, 201, [0, 0, 0, 0], Arg::Jump(0)),
+    ]?)
+}
+
+#[test]
+fn decodes_each_opcode(rt: HostRuntime) -> Result<(), Fail> {
+    let alloc = rt.alloc();
+    let pool = pool(alloc)?;
+    for (first, last, rest, arg) in cases(alloc)?.as_slice() {
+        for op in *first..=*last {
+            let code = [op, rest[0], rest[1], rest[2], rest[3]];
+            let body = decode(alloc, code.as_slice(), &pool, [].as_slice(), 9, 4)?;
+            let insn = body.at(0).ok_or("an instruction")?;
+            assert_eq!(rt; (insn.op, insn.wide), (op, false));
+            assert!(rt; insn.arg == *arg, "at {op}");
+        }
+    }
+    Ok(())
+}
+
+#[test]
+fn decodes_a_tableswitch(rt: HostRuntime) -> Result<(), Fail> {
+    let code = [
+        0xAA, 0, 0, 0, 0, 0, 0, 20, 0, 0, 0, 0, 0, 0, 0, 0, 0, 0, 0, 0, 0xB1,
+    ];
+    let body = plain(rt.alloc(), code.as_slice())?;
+    assert_eq!(rt; body.target(0, 0), Some(20));
+    assert_eq!(rt; body.target(0, 1), Some(0));
+    assert_eq!(rt; body.target(0, 2), None);
+    assert_eq!(rt; body.at(20).map(|insn| insn.op), Some(177));
+    assert_eq!(rt; (body.max_stack, body.length), (9, 21));
+    Ok(())
+}
+
+// A lookupswitch whose operands begin behind 3, 2, 1 and 0 bytes of padding.
+#[test]
+fn decodes_switches_at_each_alignment(rt: HostRuntime) -> Result<(), Fail> {
+    let code = [
+        0, 0, 0, 0xAB, 0, 0, 0, 9, 0, 0, 0, 0, // at 3, without padding
+        0xAB, 0, 0, 0, 0, 0, 0, 12, 0, 0, 0, 0, // at 12, behind 3 bytes
+        0, 0xAB, 9, 9, 0, 0, 0, 11, 0, 0, 0, 0, // at 25, behind 2 bytes, of any value
+        0, 0, 0xAB, 0, 0, 0, 0, 10, 0, 0, 0, 0, // at 38, behind 1 byte
+        0xB1,
+    ];
+    let body = plain(rt.alloc(), code.as_slice())?;
+    for (pc, target) in [(3, 12), (12, 24), (25, 36), (38, 48)] {
+        assert_eq!(rt; body.at(pc).map(|insn| insn.op), Some(171), "at {pc}");
+        assert_eq!(rt; body.target(pc, 0), Some(target), "at {pc}");
+    }
+    Ok(())
+}
+
+// A wide iload of the local variable 256, and an ireturn.
+const WIDE_LOAD: [u8; 5] = [0xC4, 0x15, 1, 0, 0xAC];
+
+#[test]
+fn decodes_a_wide_load(rt: HostRuntime) -> Result<(), Fail> {
+    let alloc = rt.alloc();
+    let pool = Pool::from_items(Vec::new(alloc));
+    let body = decode(alloc, WIDE_LOAD.as_slice(), &pool, [].as_slice(), 1, 257)?;
+    let load = body.at(0).ok_or("a load")?;
+    assert_eq!(rt; (load.op, load.wide), (21, true));
+    assert!(rt; load.arg == Arg::Local(256));
+    assert_eq!(rt; body.next(0), Some(4));
+    let refused = decode(alloc, WIDE_LOAD.as_slice(), &pool, [].as_slice(), 1, 256);
+    assert!(rt; refused.err() == Some(BadCode::Bad { pc: 0 }));
+    Ok(())
+}
+
+#[test]
+fn refuses_at_the_least_offset(rt: HostRuntime) -> Result<(), Fail> {
+    let alloc = rt.alloc();
+    for (code, pc) in [
+        ([0, 202, 0, 0], 1), // no opcode
+        ([0xAC, 0, 0, 0x10], 3), // a cut operand
+        ([0xC4, 0xA9, 0, 0], 0), // a wide ret
+        ([0xA7, 0, 1, 0xB1], 0), // a jump into an instruction
+        ([0, 0xA7, 0, 9], 1), // a jump behind the code
+        ([0, 0, 0xBC, 3], 2), // a newarray of no type
+        ([0, 0, 0x15, 4], 2), // a local variable that is too high
+        ([0, 0xB2, 0, 1], 1), // a field that isn't in the pool
+        ([0xA7, 0, 9, 202], 0), // a jump, before the code breaks off
+    ] {
+        let refused = plain(alloc, code.as_slice()).err();
+        assert!(rt; refused == Some(BadCode::Bad { pc }), "at {pc}");
+    }
+    Ok(())
+}
+
+#[test]
+fn decodes_handlers(rt: HostRuntime) -> Result<(), Fail> {
+    let alloc = rt.alloc();
+    let pool = pool(alloc)?;
+    let code = [0, 0x10, 5, 0xB1];
+    for (start, end, target, catch, pc) in [
+        (0, 4, 3, 2, None),
+        (0, 1, 0, 0, None),
+        (0, 0, 3, 0, Some(0)),
+        (1, 2, 3, 0, Some(1)),
+        (2, 3, 3, 0, Some(2)),
+        (3, 5, 3, 0, Some(3)),
+        (0, 4, 2, 0, Some(0)),
+        (1, 4, 3, 15, Some(1)),
+    ] {
+        let handler = RawHandler {
+            start,
+            end,
+            target,
+            catch,
+        };
+        let read = decode(alloc, code.as_slice(), &pool, [handler].as_slice(), 1, 0);
+        assert!(rt;
+            read.err() == pc.map(|pc| BadCode::Bad { pc }),
+            "at {start}"
+        );
+    }
+    Ok(())
+}
