@@ -27,10 +27,6 @@ use Rattle.jv_form.specs.Kinds.{IsKindSafe}
 abbrev pub file_limit : ℕ
 file_limit = 16777216
 
--- the bytes begin as each class file does (JVMS 4.1)
-abbrev pub HasMagic : List ℕ → Type 0
-HasMagic bytes = (rest : List ℕ) × (bytes ≡ 0xCA ∷ 0xFE ∷ 0xBA ∷ 0xBE ∷ rest)
-
 -- a name or descriptor that is used is printed as it is: each byte is visible ASCII and no percent sign
 abbrev pub IsVisible : List ℕ → Type 0
 IsVisible text = AllByRecursion (λ b. (0x21 ≤ b) × (b ≤ 0x7E) × (b ≢ 0x25)) text

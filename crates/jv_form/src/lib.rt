@@ -1,4 +1,4 @@
-//! The wider form that `calls` is to take, a class with fields and methods over ints, itself and
+//! The form that `calls` takes, a class with fields and methods over ints, itself and
 //! `java/lang/Object`, and its reader.
 #![tactic(auto)]
 
@@ -33,7 +33,7 @@ mod walk_steps;
 pub use class_of_outline::{class_of, one_class_of};
 pub use layout::{one_outline, read_outline};
 pub use outline::{Entry, Outline, RawField, RawMethod};
-pub use read::{FILE_LIMIT, class_in_range, has_magic, one_object_class, read_object_class};
+pub use read::{FILE_LIMIT, class_in_range, one_object_class, read_object_class};
 pub use read_error::ReadError;
 pub use walk::walk_depths;
 

@@ -1,6 +1,6 @@
-ghost use Rattle.std.specs.Prelude.{◌≡◌, ◌↔◌, ℕ, List, IfOk, IsTrue, Err};
+ghost use Rattle.std.specs.Prelude.{◌≡◌, ℕ, List, IfOk, Err};
 ghost use Rattle.jv_form.specs.declared.object_class.ObjectClass.{ObjectClass};
-ghost use Rattle.jv_form.specs.ObjectForm.{HasMagic, IsObjectClass};
+ghost use Rattle.jv_form.specs.ObjectForm.{IsObjectClass};
 ghost use Rattle.jv_form.specs.Ranges.{IsInRange};
 
 use crate::class_of_outline::class_of;
@@ -11,16 +11,6 @@ use std::alloc::Global;
 
 /// A file has at most this many bytes.
 pub const FILE_LIMIT: usize = 16777216;
-
-/// Whether the bytes begin as each class file does (JVMS 4.1).
-pub fn has_magic(bytes: &[u8]) -> bool
-    ensures { IsTrue result ↔ HasMagic bytes.now }
-{
-    match bytes {
-        [0xCA, 0xFE, 0xBA, 0xBE, ..] => true,
-        _ => false,
-    }
-}
 
 /// Reads the class of this name from the bytes of its file (JVMS 4.1). `Malformed` says that the bytes
 /// aren't the text of a class with this name whose fields and methods are over ints, itself and

@@ -86,9 +86,3 @@ fn an_addition_on_an_empty_stack(rt: HostRuntime) {
     let error = read_object_class(rt.alloc(), b"p/C".as_slice(), &bytes).err();
     assert_eq!(rt; error, Some(ReadError::Malformed));
 }
-
-#[test]
-fn magic(rt: HostRuntime) {
-    assert!(rt; has_magic(&CLASS));
-    assert!(rt; !has_magic(&CLASS[1..]));
-}

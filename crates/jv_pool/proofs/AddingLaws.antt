@@ -208,6 +208,13 @@ unfolding or_else
 or_none None = refl
 or_none (Some p) = refl
 
+-- an item that stood nowhere has the index behind the others as its first
+pub new_first : (all : List PoolItem) (item : PoolItem) → is_hole item ≡ false → place_of all item ≡ None → place_of (all ++ slots_of item) item ≡ Some (length all + 1)
+unfolding or_else moved
+new_first all item whole before =
+    let one : place_of (slots_of item) item ≡ Some 1 = slots_place item item ∙ ap (λ (b : Bool). cond b some_one None) (is_same-itself item whole) in
+    place_append all (slots_of item) item ∙ rw (before, one) (ap (λ (k : ℕ). Some k) (omega arith))
+
 -- a map that has the indices of the items has those of the items and one more, once it is put in
 pub places_grow : (all : List PoolItem) (item : PoolItem) (old new : BTreeMap PoolItem ℕ) (i : ℕ) → HasPlaces all old → is_hole item ≡ false → get item_cmp old item ≡ None → i ≡ length all + 1
     → Updates item_cmp old new item (Some i) → HasPlaces (all ++ slots_of item) new
@@ -221,9 +228,8 @@ places_grow all item old new i has whole absent at updates q =
     by : (b : Bool) → is_at (item_cmp item) q ≡ b → cond b (Some i) (get item_cmp old q) ≡ place_of (all ++ slots_of item) q
     by true e =
         let is : item ≡ q = item_exact item q (is_eq-Equal (item_cmp item q) e) in
-        let one : place_of (slots_of item) item ≡ Some 1 = slots_place item item ∙ ap (λ (b : Bool). cond b some_one None) (is_same-itself item whole) in
         let here : place_of (all ++ slots_of item) item ≡ Some i =
-        place_append all (slots_of item) item ∙ rw (before, one) (ap (λ (k : ℕ). Some k) (omega (arith, at))) in
+        new_first all item whole before ∙ ap (λ (k : ℕ). Some k) (sym at) in
         subst (λ (x : PoolItem). some_index i ≡ place_of (all ++ slots_of item) x) is (sym here)
     by false e =
         let apart : is_same q item ≡ false = false_if (is_same q item) (λ s.
@@ -263,6 +269,11 @@ pub found_at : (all : List PoolItem) (item : PoolItem) (places : BTreeMap PoolIt
     → item_at all b.now ≡ Some item
 found_at all item places r b has value is =
     place_found all item b.now (sym (has item) ∙ sym value ∙ ap option_copied is)
+
+-- and nowhere before that
+pub first_at : (all : List PoolItem) (item : PoolItem) (places : BTreeMap PoolItem ℕ) (r : Option (Bor ℕ)) (b : Bor ℕ) → HasPlaces all places → option_copied r ≡ get item_cmp places item → r ≡ Some b
+    → place_of all item ≡ Some b.now
+first_at all item places r b has value is = sym (has item) ∙ sym value ∙ ap option_copied is
 
 -- one that isn't has no index
 pub not_found : (all : List PoolItem) (item : PoolItem) (places : BTreeMap PoolItem ℕ) (r : Option (Bor ℕ)) → option_copied r ≡ get item_cmp places item → r ≡ None → get item_cmp places item ≡ None

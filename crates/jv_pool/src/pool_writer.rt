@@ -1,7 +1,7 @@
 ghost use Rattle.std.specs.Prelude.{◌≡◌, ◌≤◌, ◌<◌, ◌+◌, false, List, [], ◌++◌, length, Err, Some, IfOk, OnOk, OnErr};
 ghost use Rattle.jv_pool.specs.Lookups.{item_at};
 ghost use Rattle.jv_pool.specs.PoolText.{is_wide, is_hole};
-ghost use Rattle.jv_pool.specs.Adding.{slots_of, HasItem};
+ghost use Rattle.jv_pool.specs.Adding.{slots_of, HasItem, place_of};
 
 use crate::fault::PoolRefusal;
 use crate::item::PoolItem;
@@ -82,6 +82,7 @@ impl PoolWriter {
     pub fn add(&mut self, item: PoolItem) -> Result<u16, PoolRefusal>
         requires { is_hole item ≡ false }
         ensures index { IfOk result (λ i. item_at self.new i ≡ Some item) }
+        ensures first { IfOk result (λ i. place_of self.new item ≡ Some i) }
         ensures kept { OnOk result (HasItem self.old item → self.new ≡ self.old) }
         ensures grown { IfOk result (λ i. (HasItem self.old item → ⊥) → (self.new ≡ self.old ++ slots_of item) × (i ≡ length self.old + 1)) }
         ensures within { length self.new ≤ 65534 }

@@ -1,16 +1,21 @@
 -- The map has each item's index, before and after.
 use Rattle.std.proofs.Common.{◌≡◌, ◌++◌, ◌+◌, ℕ, Some, None, ap, sym, subst, ◌∙◌, List, length, length-append, arith}
 use Rattle.jv_pool.specs.declared.item.PoolItem.{PoolItem}
-use Rattle.jv_pool.specs.Adding.{slots_of, HasPlaces, item_cmp}
+use Rattle.jv_pool.specs.Adding.{slots_of, place_of, HasPlaces, item_cmp}
 use Rattle.std.specs.BTreeMap.{get, Updates}
 use Rattle.jv_pool.specs.Lookups.{item_at}
-use Rattle.jv_pool.proofs.AddingLaws.{found_at, not_found, stands_nowhere, places_grow, new_at}
+use Rattle.jv_pool.proofs.AddingLaws.{found_at, first_at, not_found, stands_nowhere, places_grow, new_at, new_first}
 use Rattle.jv_pool.proofs.pool_writer.PoolWriter.add.Goals as goal
 
 pub returns-in-Some-clause-index : goal.returns-in-Some-clause-index
 returns-in-Some-clause-index c =
     let has : HasPlaces c.args.self.now c.self.inside.places = subst (λ (l : List PoolItem). HasPlaces l c.self.inside.places) c.self.view_is c.self.invariant.1 in
     found_at c.args.self.now c.args.item c.self.inside.places c.get.result c.in-Some.place has c.get.ensures.value c.in-Some.is
+
+pub returns-in-Some-clause-first : goal.returns-in-Some-clause-first
+returns-in-Some-clause-first c =
+    let has : HasPlaces c.args.self.now c.self.inside.places = subst (λ (l : List PoolItem). HasPlaces l c.self.inside.places) c.self.view_is c.self.invariant.1 in
+    first_at c.args.self.now c.args.item c.self.inside.places c.get.result c.in-Some.place has c.get.ensures.value c.in-Some.is
 
 pub returns-in-Some-clause-grown : goal.returns-in-Some-clause-grown
 returns-in-Some-clause-grown c = λ absent.
@@ -48,6 +53,17 @@ returns-clause-index c =
     let len : c.len-len.result ≡ length c.args.self.now = omega (arith, c.len-len.ensures, c.self.inside.items.ok.0, same) in
     let grown : c.push_slots.new.items.items ≡ c.args.self.now ++ slots_of c.args.item = c.in_ok-push_slots.ensures.ok ∙ ap (λ (l : List PoolItem). l ++ slots_of c.args.item) c.self.view_is in
     ap (λ (l : List PoolItem). item_at l (c.len-len.result + 1)) grown ∙ ap (λ (n : ℕ). item_at (c.args.self.now ++ slots_of c.args.item) (n + 1)) len ∙ new_at c.args.self.now c.args.item
+
+pub returns-clause-first : goal.returns-clause-first
+returns-clause-first c =
+    let has : HasPlaces c.args.self.now c.self.inside.places = subst (λ (l : List PoolItem). HasPlaces l c.self.inside.places) c.self.view_is c.self.invariant.1 in
+    let absent : get item_cmp c.self.inside.places c.args.item ≡ None = not_found c.args.self.now c.args.item c.self.inside.places c.get.result c.get.ensures.value c.in_default.is in
+    let same : length c.self.inside.items.items ≡ length c.args.self.now = ap length c.self.view_is in
+    let len : c.len-len.result ≡ length c.args.self.now = omega (arith, c.len-len.ensures, c.self.inside.items.ok.0, same) in
+    let grown : c.push_slots.new.items.items ≡ c.args.self.now ++ slots_of c.args.item = c.in_ok-push_slots.ensures.ok ∙ ap (λ (l : List PoolItem). l ++ slots_of c.args.item) c.self.view_is in
+    ap (λ (l : List PoolItem). place_of l c.args.item) grown
+    ∙ new_first c.args.self.now c.args.item c.requires (sym (has c.args.item) ∙ absent)
+    ∙ ap (λ (n : ℕ). Some (n + 1)) (sym len)
 
 pub returns-clause-kept : goal.returns-clause-kept
 returns-clause-kept c = λ h.
