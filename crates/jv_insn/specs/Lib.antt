@@ -1,6 +1,8 @@
 pub mod Borrowed
 pub mod Decoding
 pub mod Effects
+pub mod Encoding
+pub mod Entries
 pub mod Finding
 pub mod KindSafe
 pub mod Kinds
@@ -8,3 +10,4 @@ pub mod Layouts
 pub mod Meanings
 pub mod Reading
 pub mod Rows
+pub mod Writing

@@ -1,6 +1,7 @@
 ghost use Rattle.std.specs.Prelude.{◌≡◌};
 ghost use Rattle.jv_insn.specs.declared.fault.BadCode.TheVariants as code;
 ghost use Rattle.jv_insn.specs.declared.fault.Fault.TheVariants as fault;
+ghost use Rattle.jv_insn.specs.declared.fault.EncodeRefusal.TheVariants as refusal;
 
 use jv_desc::BadDesc;
 use std::alloc::{AllocError, AllocFailed};
@@ -30,6 +31,25 @@ impl<T: Drop> From<AllocFailed<T>> for BadCode {
 
     fn from(_e: AllocFailed<T>) -> BadCode {
         BadCode::Memory
+    }
+}
+
+/// Why a body was not encoded.
+#[derive(Clone, Copy, Debug, PartialEq, Eq, Error)]
+pub enum EncodeRefusal {
+    /// The greatest index of the constant pool would pass 65534.
+    #[error("the constant pool is full")]
+    PoolFull,
+    /// Memory is wanting.
+    #[error("out of memory")]
+    Memory,
+}
+
+impl From<AllocError> for EncodeRefusal {
+    ghost from_gives = { λ _ e. e ≡ refusal.Memory };
+
+    fn from(_e: AllocError) -> EncodeRefusal {
+        EncodeRefusal::Memory
     }
 }
 

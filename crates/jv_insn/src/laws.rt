@@ -12,6 +12,7 @@ ghost use Rattle.jv_types.specs.declared.raw_handler.RawHandler.{RawHandler};
 ghost use Rattle.jv_types.specs.declared.body.Body.{Body};
 ghost use Rattle.jv_pool.specs.declared.item.PoolItem.{PoolItem};
 ghost use Rattle.jv_insn.specs.Decoding.{Decodes, FailsAt};
+ghost use Rattle.jv_insn.specs.Encoding.{IsSpelled};
 ghost use Rattle.jv_insn.specs.KindSafe.{IsKindSafe, Covers};
 ghost use Rattle.jv_insn.specs.Effects.{effect_of, op_row, decides_cells};
 ghost use Rattle.jv_insn.specs.Kinds.{HoldsCells, cell_words, kinds_after};
@@ -44,6 +45,13 @@ pub fn kind_safe_places_are_instructions()
 pub fn decoded_codes_fail_nowhere()
     ensures { (pool : List PoolItem) (max_stack max_locals : ℕ) (code : List ℕ) (handlers : List RawHandler) (body : Body) (pc : ℕ)
         → Decodes pool max_stack max_locals code handlers body → FailsAt pool max_locals code handlers pc → ⊥ }
+{}
+
+/// A body that was decoded is spelled by some code over some pool, as `encode` asks of it. This does nothing,
+/// and its contract is the law.
+pub fn decoded_bodies_are_spelled()
+    ensures { (pool : List PoolItem) (max_stack max_locals : ℕ) (code : List ℕ) (handlers : List RawHandler) (body : Body)
+        → Decodes pool max_stack max_locals code handlers body → IsSpelled body }
 {}
 
 /// What a code spells is one body. This does nothing, and its contract is the law.

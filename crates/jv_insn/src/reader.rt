@@ -8,13 +8,10 @@ ghost use Rattle.jv_insn.specs.Reading.{Gives, laid_at, plain_at, wide_at, writt
 use crate::fault::Fault;
 use crate::number::{read_u1, read_u2, read_u4};
 use crate::switches::{read_lookup, read_table};
-use crate::written::{Operands, Written};
+use crate::written::{Operands, WIDE, Written};
 use jv_bytes::Cursor;
 use jv_table::{Form, newarray_code, opcode};
 use std::alloc::Global;
-
-/// The opcode of wide.
-const WIDE: u8 = 196;
 
 /// The opcode of ret, which has no wide form here.
 const RET: u8 = 169;

@@ -11,7 +11,7 @@ use jv_types::Seq;
 use std::alloc::Global;
 
 /// How many bytes stand before the numbers of a switch, whose operands begin at this offset.
-fn padding_at(at: usize) -> usize
+pub fn padding_at(at: usize) -> usize
     ensures { result ≡ padding_at at }
 {
     (4 - at % 4) % 4

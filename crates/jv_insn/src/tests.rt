@@ -1,9 +1,16 @@
-ghost use Rattle.std.specs.Prelude.{◌≤◌, length};
+ghost use Rattle.std.specs.Prelude.{◌≡◌, ◌≤◌, ℕ, IsTrue, false, length, IfOk};
+ghost use Rattle.std.specs.List.{AllByRecursion};
+ghost use Rattle.jv_types.specs.declared.instruction.Insn.{Insn as Insns};
+ghost use Rattle.jv_pool.specs.PoolText.{is_hole};
+ghost use Rattle.jv_insn.specs.Entries.{Grows};
+ghost use Rattle.jv_insn.specs.Encoding.{IsSpelled, is_left_out, StandsNear};
 
 use super::*;
-use jv_pool::{Pool, PoolItem};
+use crate::entries::index_of;
+use jv_pool::{Pool, PoolItem, PoolWriter};
 use jv_types::{
-    Arg, Body, Const, Desc, FieldRef, MethodDesc, MethodRef, Name, Prim, RawHandler, RefType, Seq,
+    Arg, Body, Const, Copied, Desc, FieldRef, Insn, MethodDesc, MethodRef, Name, Prim, RawHandler,
+    RefType, Seq,
 };
 use sqlite_items::Boxed;
 use std::alloc::{AllocError, Global};
@@ -17,7 +24,9 @@ fn plain(alloc: Global, code: &[u8]) -> Result<Body, BadCode>
     decode(alloc, code, &pool, [].as_slice(), 9, 4)
 }
 
-fn text(alloc: Global, bytes: &[u8]) -> Result<PoolItem, AllocError> {
+fn text(alloc: Global, bytes: &[u8]) -> Result<PoolItem, AllocError>
+    ensures { IfOk result (λ item. is_hole item ≡ false) }
+{
     Ok(PoolItem::Utf8(Seq::from_vec(Vec::from_slice(alloc, bytes)?)))
 }
 
@@ -114,8 +123,92 @@ fn cases(alloc: Global) -> Result<Vec<Case>, AllocError> {
     ]?)
 }
 
+// ---- encoding
+
+/// Whether each part of the operands is there.
+fn is_whole(arg: &Arg) -> bool
+    ensures { IsTrue result → is_left_out arg.now ≡ false }
+{
+    !matches!(
+        arg,
+        Arg::Dynamic | Arg::Constant(Const::Text | Const::Handle | Const::MethodKind)
+    )
+}
+
+/// Whether the constant of an ldc stands at an index of one byte in a pool, to which it is added.
+fn is_near(alloc: Global, insn: &Insn, pool: &mut PoolWriter) -> Result<bool, EncodeRefusal>
+    ensures near { IfOk result (λ near. IsTrue near → StandsNear pool.new insn.now) }
+    ensures grown { Grows pool.old pool.new }
+{
+    if insn.op != 18 {
+        return Ok(true);
+    }
+    let index = index_of(alloc, pool, &insn.arg)?;
+    Ok(index <= 255)
+}
+
+/// Whether a body may be encoded over a pool, to which the constants of its ldc are added.
+fn may_encode(alloc: Global, body: &Body, pool: &mut PoolWriter) -> Result<bool, EncodeRefusal>
+    ensures { IfOk result (λ may. IsTrue may → AllByRecursion (λ (row : ℕ × Insns). (is_left_out row.1.arg ≡ false) × StandsNear pool.new row.1) body.now.insns) }
+{
+    for row in body.insns.as_slice() {
+        if !is_near(alloc, &row.1, pool)? || !is_whole(&row.1.arg) {
+            return Ok(false);
+        }
+    }
+    Ok(true)
+}
+
+/// The code of a body, where it may be encoded over a pool.
+fn encoded(
+    alloc: Global,
+    body: &Body,
+    pool: &mut PoolWriter,
+) -> Result<Option<Vec<u8>>, EncodeRefusal>
+    requires { IsSpelled body.now }
+{
+    if !may_encode(alloc, body, pool)? {
+        return Ok(None);
+    }
+    Ok(Some(encode(alloc, body, pool)?))
+}
+
+/// The code as which a code without handlers is encoded, once it is decoded over a pool of these items.
+fn encoded_again(
+    alloc: Global,
+    code: &[u8],
+    items: &Pool,
+    pool: &mut PoolWriter,
+    max_locals: u16,
+) -> Result<Vec<u8>, Fail>
+    requires { length code.now ≤ 65535 }
+{
+    let body = decode(alloc, code, items, [].as_slice(), 9, max_locals)?;
+    let code = encoded(alloc, &body, pool)?;
+    Ok(code.ok_or("a body that may be encoded")?)
+}
+
+/// Whether an item is the second index of a long or double.
+fn is_hole(item: &PoolItem) -> bool
+    ensures { result ≡ is_hole item.now }
+{
+    matches!(item, PoolItem::Hole)
+}
+
+/// A writer of a pool with these items.
+fn writer_of(alloc: Global, pool: &Pool) -> Result<PoolWriter, Fail> {
+    let mut writer = PoolWriter::new(alloc);
+    for item in pool.items() {
+        let copied = item.copy()?;
+        if !is_hole(&copied) {
+            writer.add(copied)?;
+        }
+    }
+    Ok(writer)
+}
+
 #[test]
-fn decodes_each_opcode(rt: HostRuntime) -> Result<(), Fail> {
+fn spells_each_opcode_both_ways(rt: HostRuntime) -> Result<(), Fail> {
     let alloc = rt.alloc();
     let pool = pool(alloc)?;
     for (first, last, rest, arg) in cases(alloc)?.as_slice() {
@@ -125,40 +218,58 @@ fn decodes_each_opcode(rt: HostRuntime) -> Result<(), Fail> {
             let insn = body.at(0).ok_or("an instruction")?;
             assert_eq!(rt; (insn.op, insn.wide), (op, false));
             assert!(rt; insn.arg == *arg, "at {op}");
+            if *arg != Arg::Dynamic {
+                let mut writer = writer_of(alloc, &pool)?;
+                let again = encoded_again(alloc, code.as_slice(), &pool, &mut writer, 4)?;
+                assert_eq!(rt; again.as_slice(), code.as_slice(), "at {op}");
+            }
         }
     }
     Ok(())
 }
 
 #[test]
-fn decodes_a_tableswitch(rt: HostRuntime) -> Result<(), Fail> {
+fn spells_a_tableswitch_both_ways(rt: HostRuntime) -> Result<(), Fail> {
+    let alloc = rt.alloc();
     let code = [
         0xAA, 0, 0, 0, 0, 0, 0, 20, 0, 0, 0, 0, 0, 0, 0, 0, 0, 0, 0, 0, 0xB1,
     ];
-    let body = plain(rt.alloc(), code.as_slice())?;
+    let body = plain(alloc, code.as_slice())?;
     assert_eq!(rt; body.target(0, 0), Some(20));
     assert_eq!(rt; body.target(0, 1), Some(0));
     assert_eq!(rt; body.target(0, 2), None);
     assert_eq!(rt; body.at(20).map(|insn| insn.op), Some(177));
     assert_eq!(rt; (body.max_stack, body.length), (9, 21));
+    let pool = Pool::from_items(Vec::new(alloc));
+    let mut writer = PoolWriter::new(alloc);
+    let again = encoded_again(alloc, code.as_slice(), &pool, &mut writer, 0)?;
+    assert_eq!(rt; again.as_slice(), code.as_slice());
     Ok(())
 }
 
-// A lookupswitch whose operands begin behind 3, 2, 1 and 0 bytes of padding.
+// A lookupswitch whose operands begin behind 3, 2, 1 and 0 bytes of padding, which are zeros where they are
+// encoded.
 #[test]
-fn decodes_switches_at_each_alignment(rt: HostRuntime) -> Result<(), Fail> {
-    let code = [
+fn spells_switches_at_each_alignment(rt: HostRuntime) -> Result<(), Fail> {
+    let alloc = rt.alloc();
+    let mut code = [
         0, 0, 0, 0xAB, 0, 0, 0, 9, 0, 0, 0, 0, // at 3, without padding
         0xAB, 0, 0, 0, 0, 0, 0, 12, 0, 0, 0, 0, // at 12, behind 3 bytes
         0, 0xAB, 9, 9, 0, 0, 0, 11, 0, 0, 0, 0, // at 25, behind 2 bytes, of any value
         0, 0, 0xAB, 0, 0, 0, 0, 10, 0, 0, 0, 0, // at 38, behind 1 byte
         0xB1,
     ];
-    let body = plain(rt.alloc(), code.as_slice())?;
+    let body = plain(alloc, code.as_slice())?;
     for (pc, target) in [(3, 12), (12, 24), (25, 36), (38, 48)] {
         assert_eq!(rt; body.at(pc).map(|insn| insn.op), Some(171), "at {pc}");
         assert_eq!(rt; body.target(pc, 0), Some(target), "at {pc}");
     }
+    let pool = Pool::from_items(Vec::new(alloc));
+    let mut writer = PoolWriter::new(alloc);
+    let again = encoded_again(alloc, code.as_slice(), &pool, &mut writer, 0)?;
+    code[26] = 0;
+    code[27] = 0;
+    assert_eq!(rt; again.as_slice(), code.as_slice());
     Ok(())
 }
 
@@ -166,7 +277,7 @@ fn decodes_switches_at_each_alignment(rt: HostRuntime) -> Result<(), Fail> {
 const WIDE_LOAD: [u8; 5] = [0xC4, 0x15, 1, 0, 0xAC];
 
 #[test]
-fn decodes_a_wide_load(rt: HostRuntime) -> Result<(), Fail> {
+fn spells_a_wide_load_both_ways(rt: HostRuntime) -> Result<(), Fail> {
     let alloc = rt.alloc();
     let pool = Pool::from_items(Vec::new(alloc));
     let body = decode(alloc, WIDE_LOAD.as_slice(), &pool, [].as_slice(), 1, 257)?;
@@ -176,6 +287,48 @@ fn decodes_a_wide_load(rt: HostRuntime) -> Result<(), Fail> {
     assert_eq!(rt; body.next(0), Some(4));
     let refused = decode(alloc, WIDE_LOAD.as_slice(), &pool, [].as_slice(), 1, 256);
     assert!(rt; refused.err() == Some(BadCode::Bad { pc: 0 }));
+    let mut writer = PoolWriter::new(alloc);
+    let again = encoded_again(alloc, WIDE_LOAD.as_slice(), &pool, &mut writer, 257)?;
+    assert_eq!(rt; again.as_slice(), WIDE_LOAD.as_slice());
+    Ok(())
+}
+
+// A bipush of 5 and an ireturn, and the other way round.
+#[test]
+fn spells_a_push_both_ways(rt: HostRuntime) -> Result<(), Fail> {
+    let alloc = rt.alloc();
+    let code = [0x10, 5, 0xAC];
+    let body = plain(alloc, code.as_slice())?;
+    assert!(rt; body.at(0).map(|insn| insn.arg == Arg::Small(5)) == Some(true));
+    assert_eq!(rt; (body.next(0), body.next(2)), (Some(2), None));
+    assert_eq!(rt; body.at(2).map(|insn| insn.op), Some(172));
+    let pool = Pool::from_items(Vec::new(alloc));
+    let mut writer = PoolWriter::new(alloc);
+    let again = encoded_again(alloc, code.as_slice(), &pool, &mut writer, 0)?;
+    assert_eq!(rt; again.as_slice(), code.as_slice());
+    let refused = plain(alloc, [0xAC, 0x10].as_slice()).err();
+    assert!(rt; refused == Some(BadCode::Bad { pc: 1 }));
+    Ok(())
+}
+
+// A getstatic of a field of which the class is there, and room for one item; then a new of that class.
+#[test]
+fn refuses_a_full_pool(rt: HostRuntime) -> Result<(), Fail> {
+    let alloc = rt.alloc();
+    let items = pool(alloc)?;
+    let mut writer = PoolWriter::new(alloc);
+    for number in 0..65531 {
+        writer.add(PoolItem::Integer(number))?;
+    }
+    writer.add(text(alloc, b"A".as_slice())?)?;
+    writer.add(PoolItem::Class(65532))?;
+    let body = decode(alloc, [0xB2, 0, 6].as_slice(), &items, [].as_slice(), 1, 0)?;
+    let refused = encoded(alloc, &body, &mut writer).err();
+    assert!(rt; refused == Some(EncodeRefusal::PoolFull));
+    let class = decode(alloc, [0xBB, 0, 2].as_slice(), &items, [].as_slice(), 1, 0)?;
+    let again = encoded(alloc, &class, &mut writer)?.ok_or("a code")?;
+    assert_eq!(rt; again.as_slice(), [0xBB, 0xFF, 0xFD].as_slice());
+    assert_eq!(rt; writer.done().items().len(), 65534);
     Ok(())
 }
 

@@ -1,0 +1,5 @@
+use Rattle.jv_insn.proofs.Encoded.{spelled_of}
+use Rattle.jv_insn.proofs.laws.decoded_bodies_are_spelled.Goals as goal
+
+pub returns : goal.returns
+returns c = spelled_of
