@@ -8,6 +8,7 @@ FAMILY  chain  main calls m0, and each method the next one
         wide   N kilobytes of code, in methods of 64,000 bytes that call one another
         flow   N methods, each of which makes an object, puts the one it was handed into its field, and
                hands it to the next method, which reads it back out of that field
+        codes  one method of N bytes of code, of pushes and pops, with 10,000 handlers
 The class is named `Big`, and FILE should be `Big.class`.
 """
 import struct
@@ -54,8 +55,9 @@ def call(name):
     return b"\xb8" + struct.pack(">H", method_item("Big", name, "()V"))
 
 
-def method(name, desc, access, code):
-    content = struct.pack(">HHI", 2, 2, len(code)) + code + struct.pack(">HH", 0, 0)
+def method(name, desc, access, code, handlers=b""):
+    content = struct.pack(">HHI", 2, 2, len(code)) + code
+    content += struct.pack(">H", len(handlers) // 8) + handlers + struct.pack(">H", 0)
     attribute = struct.pack(">HI", utf8("Code"), len(content)) + content
     return struct.pack(">HHHH", access, utf8(name), utf8(desc), 1) + attribute
 
@@ -99,8 +101,12 @@ elif family == "flow":
     methods.append(method("main", main_desc, 9, b"\x01" + named(184, method_item("Big", "m0", "(LBig;)V")) + end))
     for i in range(size):
         methods.append(method("m%d" % i, "(LBig;)V", 8, link("m%d" % (i + 1) if i + 1 < size else "")))
+elif family == "codes":
+    code = b"\x03\x57" * ((size - 1) // 2) + b"\0" * ((size - 1) % 2) + end
+    handlers = b"".join(struct.pack(">HHHH", 2 * (i % 1000), size, 0, 0) for i in range(10000))
+    methods.append(method("main", main_desc, 9, code, handlers))
 else:
-    sys.exit("FAMILY is chain, fan, wide or flow")
+    sys.exit("FAMILY is chain, fan, wide, flow or codes")
 
 this_class, super_class = class_item("Big"), class_item("java/lang/Object")
 out = b"\xca\xfe\xba\xbe" + struct.pack(">HHH", 0, 52, len(pool) + 1) + b"".join(pool)
