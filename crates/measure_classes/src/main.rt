@@ -39,7 +39,10 @@ fn measure_codes(rt: &(impl Print + AllocGlobal), rounds: u32, files: &[File]) -
     for _ in 0..rounds {
         decode_all(rt.alloc(), &classes, &mut decoded)?;
     }
-    println!(rt; "codes {} bytes {} insns {}", decoded.codes, decoded.bytes, decoded.insns)?;
+    println!(rt;
+        "codes {} bytes {} insns {}",
+        decoded.codes, decoded.bytes, decoded.insns
+    )?;
     Ok(())
 }
 
