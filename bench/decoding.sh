@@ -1,7 +1,8 @@
 #!/usr/bin/env bash
 # Times decoding: the program `measure_classes` decodes the codes of all methods of the class files below a
 # folder. Then one code of n bytes for rising n up to 65,535, the most that a code may have, with 10,000 handlers.
-# Prints instructions a second, and of a single code microseconds, and the peak memory.
+# Prints instructions by the second, and of a single code microseconds, both of processor time, and the peak
+# memory.
 #
 # decoding.sh FOLDER [ROUNDS]
 set -eu
@@ -13,17 +14,18 @@ for n in 16383 32767 65535; do
   python3 "$top/bench/make_class.py" codes "$n" "$work/codes$n.class"
 done
 python3 - "$top/crates/measure_classes/out/measure_classes" "$1" "${2:-1000}" "$work" <<'PY'
-import shutil, subprocess, sys, time
+import os, shutil, subprocess, sys
 
 program, folder, rounds, work = sys.argv[1], sys.argv[2], int(sys.argv[3]), sys.argv[4]
 
 
 def run(times, path):
-    # seconds, peak memory where the command `time` is installed, and the counts that were printed
+    # processor seconds, peak memory where the command `time` is installed, and the counts that were printed
     timed = ["time", "-f", "%M"] if shutil.which("time") else []
-    begin = time.monotonic()
+    before = os.times()
     child = subprocess.run(timed + [program, "decode", str(times), path], stdout=subprocess.PIPE, stderr=subprocess.PIPE)
-    seconds = time.monotonic() - begin
+    after = os.times()
+    seconds = after.children_user + after.children_system - before.children_user - before.children_system
     words = child.stdout.split()
     peak = child.stderr.split()[-1].decode() + " KiB" if timed else "unknown"
     return seconds, peak, int(words[1]), int(words[3]), int(words[5])
