@@ -1,3 +1,4 @@
+-- The numbers of the body are those of the code.
 use Rattle.jv_insn.proofs.Encoded.{spelled_of}
 use Rattle.jv_insn.proofs.laws.decoded_bodies_are_spelled.Goals as goal
 
