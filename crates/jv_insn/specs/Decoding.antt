@@ -82,5 +82,5 @@ pub record IsLeastFailure (pool : List PoolItem) (max_locals : ℕ) (code : List
 
 -- the offset that an answer names has a property
 abbrev pub BadAt : (ℕ → Type 0) → BadCode → Type 0
-BadAt P (bad.Bad pc) = P pc
+BadAt P (bad.At pc) = P pc
 BadAt P bad.Memory = Unit {0}

@@ -38,14 +38,14 @@ pub fn decode(
             insns: Seq::from_vec(insns),
             handlers,
         }),
-        (Ok(_), Ok(_), Some(pc)) => Err(BadCode::Bad { pc }),
-        (Ok(_), Err(pc), end) => Err(BadCode::Bad {
+        (Ok(_), Ok(_), Some(pc)) => Err(BadCode::At { pc }),
+        (Ok(_), Err(pc), end) => Err(BadCode::At {
             pc: lesser(end, pc),
         }),
-        (Err(pc), Ok(_), end) => Err(BadCode::Bad {
+        (Err(pc), Ok(_), end) => Err(BadCode::At {
             pc: lesser(end, pc),
         }),
-        (Err(pc), Err(other), end) => Err(BadCode::Bad {
+        (Err(pc), Err(other), end) => Err(BadCode::At {
             pc: lesser(Some(pc), lesser(end, other)),
         }),
     }

@@ -12,7 +12,7 @@ use thiserror::Error;
 pub enum BadCode {
     /// The code isn't well formed. The offset is the least at which it fails.
     #[error("the code isn't well formed at {pc}")]
-    Bad { pc: u16 },
+    At { pc: u16 },
     /// Memory is wanting.
     #[error("out of memory")]
     Memory,

@@ -286,7 +286,7 @@ fn spells_a_wide_load_both_ways(rt: HostRuntime) -> Result<(), Fail> {
     assert!(rt; load.arg == Arg::Local(256));
     assert_eq!(rt; body.next(0), Some(4));
     let refused = decode(alloc, WIDE_LOAD.as_slice(), &pool, [].as_slice(), 1, 256);
-    assert!(rt; refused.err() == Some(BadCode::Bad { pc: 0 }));
+    assert!(rt; refused.err() == Some(BadCode::At { pc: 0 }));
     let mut writer = PoolWriter::new(alloc);
     let again = encoded_again(alloc, WIDE_LOAD.as_slice(), &pool, &mut writer, 257)?;
     assert_eq!(rt; again.as_slice(), WIDE_LOAD.as_slice());
@@ -307,7 +307,7 @@ fn spells_a_push_both_ways(rt: HostRuntime) -> Result<(), Fail> {
     let again = encoded_again(alloc, code.as_slice(), &pool, &mut writer, 0)?;
     assert_eq!(rt; again.as_slice(), code.as_slice());
     let refused = plain(alloc, [0xAC, 0x10].as_slice()).err();
-    assert!(rt; refused == Some(BadCode::Bad { pc: 1 }));
+    assert!(rt; refused == Some(BadCode::At { pc: 1 }));
     Ok(())
 }
 
@@ -347,7 +347,7 @@ fn refuses_at_the_least_offset(rt: HostRuntime) -> Result<(), Fail> {
         ([0xA7, 0, 9, 202], 0), // a jump, before the code breaks off
     ] {
         let refused = plain(alloc, code.as_slice()).err();
-        assert!(rt; refused == Some(BadCode::Bad { pc }), "at {pc}");
+        assert!(rt; refused == Some(BadCode::At { pc }), "at {pc}");
     }
     Ok(())
 }
@@ -375,7 +375,7 @@ fn decodes_handlers(rt: HostRuntime) -> Result<(), Fail> {
         };
         let read = decode(alloc, code.as_slice(), &pool, [handler].as_slice(), 1, 0);
         assert!(rt;
-            read.err() == pc.map(|pc| BadCode::Bad { pc }),
+            read.err() == pc.map(|pc| BadCode::At { pc }),
             "at {start}"
         );
     }

@@ -66,7 +66,7 @@ fn decode_code(alloc: Global, pool: &Pool, code: &CodeAttr, decoded: &mut Decode
             decoded.count(bytes.len(), body.insns.len());
             Ok(())
         }
-        Err(BadCode::Bad { pc }) => bail!("a code that isn't well formed at {pc}"),
+        Err(BadCode::At { pc }) => bail!("a code that isn't well formed at {pc}"),
         Err(BadCode::Memory) => bail!("out of memory"),
     }
 }
