@@ -1,0 +1,5 @@
+mod Classes
+mod Arrays
+mod Pairs
+mod Supers
+mod Composing
