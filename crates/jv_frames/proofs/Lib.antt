@@ -3,3 +3,6 @@ mod Arrays
 mod Pairs
 mod Supers
 mod Composing
+mod References
+mod Determined
+mod Mapping

@@ -3,10 +3,20 @@
 #![tactic(auto)]
 
 mod assignability;
+mod descriptors;
+mod entry;
+mod fault;
 mod laws;
+mod map_frames;
+mod map_types;
+mod maps;
+mod words;
 
 pub use assignability::{assignable, frame_assignable};
+pub use entry::initial_frame;
+pub use fault::BadMap;
 pub use laws::{assignability_is_reflexive, assignability_is_transitive};
+pub use maps::frames_of;
 
 #[cfg(test)]
 mod tests;
