@@ -6,3 +6,5 @@ mod Composing
 mod References
 mod Determined
 mod Mapping
+mod OneAnswer
+mod Written

@@ -89,6 +89,14 @@ pub record HasTypes (pool : List PoolItem) (before : List VType) (f : MapFrame) 
   pub locals_are : AreLocalsIn (group_of f.kind) pool before f locals
   pub stack_is : AllZip (IsTypeOf pool) f.stack stack
 
+-- a frame that takes types of local variables away takes no more than there are
+abbrev pub IsEnoughIn : Option FrameGroup → List VType → MapFrame → Type 0
+IsEnoughIn (Some Chop) before f = 251 - f.kind ≤ length before
+IsEnoughIn _ before f = Unit {0}
+
+abbrev pub IsEnough : List VType → MapFrame → Type 0
+IsEnough before f = IsEnoughIn (group_of f.kind) before f
+
 -- a `new` stands at the offset (opcode 187)
 pub record IsNewAt (insns : List (ℕ × Insn)) (pc : ℕ) : Type 0 where
   pub insn : Insn

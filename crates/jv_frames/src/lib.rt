@@ -15,8 +15,13 @@ mod words;
 pub use assignability::{assignable, frame_assignable};
 pub use entry::initial_frame;
 pub use fault::BadMap;
-pub use laws::{assignability_is_reflexive, assignability_is_transitive};
+pub use laws::{
+    assignability_is_reflexive, assignability_is_transitive, maps_have_one_answer,
+    written_frames_have_types,
+};
 pub use maps::frames_of;
 
+#[cfg(test)]
+mod map_tests;
 #[cfg(test)]
 mod tests;
