@@ -10,8 +10,8 @@ use jv_types::{Body, RawHandler, Seq};
 use std::alloc::Global;
 
 /// The body that a code spells with its handlers over a constant pool (JVMS 4.7.3, 4.9.1, 6.5). It is
-/// refused `Bad` exactly where the code isn't well formed, at the least offset at which it fails: an
-/// instruction that names what it may not name, a handler that is none, at its start, or a place where
+/// refused exactly where the code isn't well formed, `At` the least offset at which it fails: that of an
+/// instruction that names what it may not name, the start of a handler that is none, or a place where
 /// bytes are left and no instruction stands.
 pub fn decode(
     alloc: Global,
