@@ -374,10 +374,7 @@ fn decodes_handlers(rt: HostRuntime) -> Result<(), Fail> {
             catch,
         };
         let read = decode(alloc, code.as_slice(), &pool, [handler].as_slice(), 1, 0);
-        assert!(rt;
-            read.err() == pc.map(|pc| BadCode::At { pc }),
-            "at {start}"
-        );
+        assert!(rt; read.err() == pc.map(|pc| BadCode::At { pc }), "at {start}");
     }
     Ok(())
 }
