@@ -8,3 +8,5 @@ mod Determined
 mod Mapping
 mod OneAnswer
 mod Written
+pub mod TypingOnce
+mod Moves

@@ -5,3 +5,4 @@ pub mod Maps
 pub mod Pairs
 pub mod Finding
 pub mod Mapping
+pub mod Typing

@@ -10,6 +10,8 @@ mod laws;
 mod map_frames;
 mod map_types;
 mod maps;
+mod no_typing;
+mod typing_laws;
 mod words;
 
 pub use assignability::{assignable, frame_assignable};
@@ -20,6 +22,8 @@ pub use laws::{
     written_frames_have_types,
 };
 pub use maps::frames_of;
+pub use no_typing::NoTyping;
+pub use typing_laws::{moves_have_their_forms, typing_is_a_function};
 
 #[cfg(test)]
 mod map_tests;

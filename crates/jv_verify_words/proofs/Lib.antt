@@ -1,0 +1,3 @@
+mod Popping
+mod ReadLocals
+mod Stepping

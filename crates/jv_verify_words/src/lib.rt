@@ -1,0 +1,15 @@
+//! The instructions that work on words, by the opcode table: the frame that one of them leaves (JVMS
+//! 4.10.1.9).
+#![tactic(auto)]
+
+mod insns;
+mod locals;
+mod pops;
+mod pushes;
+mod steps;
+mod words;
+
+pub use steps::word_step;
+
+#[cfg(test)]
+mod tests;
