@@ -4,12 +4,12 @@ use Rattle.jv_class.specs.declared.class_file.ClassFile.{ClassFile}
 use Rattle.jv_class.specs.declared.fault.BadClass.{BadClass}
 use Rattle.jv_class.specs.declared.fault.BadClass.TheVariants as fault
 use Rattle.jv_class.specs.ClassTexts.{ClassText}
-use Rattle.jv_form.specs.declared.object_class.ObjectClass.{ObjectClass}
-use Rattle.jv_form.specs.declared.read_error.ReadError.{ReadError}
-use Rattle.jv_form.specs.declared.read_error.ReadError.TheVariants.{Malformed}
-use Rattle.jv_form.specs.ObjectForm.{IsObjectClass}
-use Rattle.av_report.specs.First.Lines.{text_of_lines}
-use Rattle.av_report.specs.First.Covered.{AreClassLines}
+use Rattle.calls_form.specs.declared.object_class.ObjectClass.{ObjectClass}
+use Rattle.calls_form.specs.declared.read_error.ReadError.{ReadError}
+use Rattle.calls_form.specs.declared.read_error.ReadError.TheVariants.{Malformed}
+use Rattle.calls_form.specs.ObjectForm.{IsObjectClass}
+use Rattle.calls_lines.specs.First.Lines.{text_of_lines}
+use Rattle.calls_lines.specs.First.Covered.{AreClassLines}
 use Rattle.av_cli.specs.FileKinds.{IsClassFile, IsInForm, DeclaresMain, LacksMain}
 use Rattle.av_cli.specs.Promise.{IsCallGraph}
 use Rattle.av_cli.specs.Graphs.{IsMainClass}

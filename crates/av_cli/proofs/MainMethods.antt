@@ -2,10 +2,10 @@
 use Rattle.std.proofs.Common.{◌≡◌, ℕ, ◌<◌, ◌≤◌, List, length, get_or, Some, refl, sym, ◌∙◌, arith}
 use Rattle.std.specs.List.{slice_get}
 use Rattle.std.proofs.lemmas.Option.{slice_get_read, slice_get_within, same_Some}
-use Rattle.jv_form.specs.declared.object_class.Method.{Method}
-use Rattle.jv_form.specs.declared.object_class.ObjectClass.{ObjectClass}
-use Rattle.av_model.specs.First.Machine.{IsMain}
-use Rattle.av_solve.specs.First.Prepared.{IsMainMethod}
+use Rattle.calls_form.specs.declared.object_class.Method.{Method}
+use Rattle.calls_form.specs.declared.object_class.ObjectClass.{ObjectClass}
+use Rattle.calls_model.specs.First.Machine.{IsMain}
+use Rattle.calls_facts.specs.First.Prepared.{IsMainMethod}
 use Rattle.av_cli.specs.FileKinds.{DeclaresMain}
 
 module _ (class : ObjectClass) (items : List Method) (same : items ≡ class.methods) (place : ℕ) (m : Method) (below : place < length items) (read : m ≡ get_or items place m) where

@@ -6,7 +6,7 @@ use Rattle.jv_host.specs.declared.sink.SinkFault.{SinkFault}
 use Rattle.jv_host.specs.declared.sink.SinkFault.TheVariants.{Failed, Memory}
 use Rattle.jv_host.specs.Counts.{Rises}
 use Rattle.jv_host.specs.SinkAnswer.{OnSinkFailed, OnSinkLacking, blanks_after}
-use Rattle.av_report.specs.First.Lines.{text_of_lines}
+use Rattle.calls_lines.specs.First.Lines.{text_of_lines}
 use Rattle.av_cli.specs.Ending.{Says}
 use Rattle.av_cli.specs.Handing.{SinkState, Takes, NeverFalls, AreCountsKept, Handed}
 

@@ -6,8 +6,8 @@ use Rattle.jv_host.specs.declared.host.HostCall.{HostCall}
 use Rattle.jv_host.specs.declared.host.HostCall.TheVariants.{ReadFile}
 use Rattle.jv_host.specs.Counts.{Rises}
 use Rattle.jv_host.specs.Files.{bytes_of}
-use Rattle.jv_form.specs.declared.object_class.ObjectClass.{ObjectClass}
-use Rattle.jv_form.specs.ObjectForm.{IsObjectClass}
+use Rattle.calls_form.specs.declared.object_class.ObjectClass.{ObjectClass}
+use Rattle.calls_form.specs.ObjectForm.{IsObjectClass}
 use Rattle.av_cli.specs.declared.status.Status.{Status}
 use Rattle.av_cli.specs.declared.status.Answer.{Answer}
 use Rattle.av_cli.specs.declared.status.Answer.TheVariants.{Printed, Misused, Unreadable, NoFile, TooLarge, NotClass, OutsideForm, NoMain, Unwritable, OutOfMemory}

@@ -3,9 +3,9 @@
 use Rattle.std.specs.Prelude.{◌<◌, ℕ, List, length}
 use Rattle.jv_class.specs.declared.class_file.ClassFile.{ClassFile}
 use Rattle.jv_class.specs.ClassTexts.{ClassText}
-use Rattle.jv_form.specs.declared.object_class.ObjectClass.{ObjectClass}
-use Rattle.jv_form.specs.ObjectForm.{file_limit, IsObjectClass}
-use Rattle.av_model.specs.First.Machine.{IsMain}
+use Rattle.calls_form.specs.declared.object_class.ObjectClass.{ObjectClass}
+use Rattle.calls_form.specs.ObjectForm.{file_limit, IsObjectClass}
+use Rattle.calls_model.specs.First.Machine.{IsMain}
 
 -- the file is longer than a class file may be
 abbrev pub IsTooLarge : List ℕ → Type 0

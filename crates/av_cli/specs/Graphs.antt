@@ -1,9 +1,9 @@
 -- What the search for a class's lines answers.
 use Rattle.std.specs.Prelude.{ℕ, List, Result, Ok, Err}
 use Rattle.std.specs.BTreeSet.{BTreeSet}
-use Rattle.jv_form.specs.declared.object_class.ObjectClass.{ObjectClass}
-use Rattle.jv_form.specs.ObjectForm.{IsObjectClass}
-use Rattle.av_report.specs.First.Lines.{text_of_lines}
+use Rattle.calls_form.specs.declared.object_class.ObjectClass.{ObjectClass}
+use Rattle.calls_form.specs.ObjectForm.{IsObjectClass}
+use Rattle.calls_lines.specs.First.Lines.{text_of_lines}
 use Rattle.av_cli.specs.declared.graph.GraphError.{GraphError}
 use Rattle.av_cli.specs.declared.graph.GraphError.TheVariants.{Memory, TooLarge, NotClass, OutsideForm, NoMain}
 use Rattle.av_cli.specs.FileKinds.{IsTooLarge, IsClassFile, IsNoClass, IsOutsideForm, DeclaresMain, LacksMain}

@@ -1,9 +1,9 @@
 -- What is promised of the text that is printed for a class.
 use Rattle.std.specs.Prelude.{◌≡◌, ℕ, List}
-use Rattle.jv_form.specs.declared.object_class.ObjectClass.{ObjectClass}
-use Rattle.jv_form.specs.ObjectForm.{IsObjectClass}
-use Rattle.av_report.specs.First.Lines.{text_of_lines}
-use Rattle.av_report.specs.First.Covered.{AreClassLines}
+use Rattle.calls_form.specs.declared.object_class.ObjectClass.{ObjectClass}
+use Rattle.calls_form.specs.ObjectForm.{IsObjectClass}
+use Rattle.calls_lines.specs.First.Lines.{text_of_lines}
+use Rattle.calls_lines.specs.First.Covered.{AreClassLines}
 use Rattle.av_cli.specs.FileKinds.{IsClassFile, DeclaresMain}
 
 -- The bytes are a class file, and one class of the form and no other, with a main. The text is exactly the

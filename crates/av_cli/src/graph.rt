@@ -4,10 +4,10 @@ ghost use Rattle.av_cli.specs.FileKinds.{IsClassFile};
 ghost use Rattle.av_cli.specs.Graphs.{IsClassOf, IsGraphOf};
 
 use crate::mains::declares_main;
-use av_report::first::class_lines;
+use calls_form::object_class::ObjectClass;
+use calls_form::{FILE_LIMIT, ReadError, class_in_range, one_object_class, read_object_class};
+use calls_lines::first::class_lines;
 use jv_class::{BadClass, read_class};
-use jv_form::object_class::ObjectClass;
-use jv_form::{FILE_LIMIT, ReadError, class_in_range, one_object_class, read_object_class};
 use jv_types::Name;
 use std::alloc::{AllocError, Global};
 use std::collections::BTreeSet;

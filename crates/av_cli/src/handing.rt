@@ -1,5 +1,5 @@
 ghost use Rattle.std.specs.Prelude.{◌≡◌, ◌∷◌, [], ◌++◌};
-ghost use Rattle.av_report.specs.First.Lines.{text_of_lines};
+ghost use Rattle.calls_lines.specs.First.Lines.{text_of_lines};
 ghost use Rattle.jv_bytes.specs.Shown.{shown_text};
 ghost use Rattle.av_cli.specs.Handing.{Handed};
 

@@ -1,9 +1,9 @@
 ghost use Rattle.std.specs.Prelude.{◌↔◌, IsTrue};
-ghost use Rattle.av_solve.specs.First.Prepared.{IsMainMethod};
+ghost use Rattle.calls_facts.specs.First.Prepared.{IsMainMethod};
 ghost use Rattle.av_cli.specs.FileKinds.{DeclaresMain};
 
 use bitflags::Flags;
-use jv_form::object_class::{Method, ObjectClass};
+use calls_form::object_class::{Method, ObjectClass};
 use jv_types::Access;
 
 /// Whether a method is `public static void main(String[])` (JVMS 5.2).

@@ -1,6 +1,6 @@
 use Rattle.std.proofs.Common.{◌∙◌}
 use Rattle.std.proofs.lemmas.Result.{err_from_is_err_and}
-use Rattle.av_report.specs.First.Lines.{text_of_lines}
+use Rattle.calls_lines.specs.First.Lines.{text_of_lines}
 use Rattle.av_cli.proofs.Sinks.{line_more, line_cut, from_handed}
 use Rattle.av_cli.proofs.handing.write_lines.Goals as goal
 

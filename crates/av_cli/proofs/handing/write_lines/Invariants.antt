@@ -1,5 +1,5 @@
 use Rattle.std.proofs.Common.{◌≡◌, length}
-use Rattle.av_report.specs.First.Lines.{text_of_lines}
+use Rattle.calls_lines.specs.First.Lines.{text_of_lines}
 use Rattle.av_cli.proofs.Sinks.{IsPartTaken}
 use Rattle.av_cli.proofs.handing.write_lines.Given as goal
 

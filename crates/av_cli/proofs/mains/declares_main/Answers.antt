@@ -1,6 +1,6 @@
 use Rattle.std.proofs.Common.{ℕ, length, ap, arith, refl, below_more}
 use Rattle.std.proofs.lemmas.Bool.{iff_false}
-use Rattle.av_model.specs.First.Machine.{IsMain}
+use Rattle.calls_model.specs.First.Machine.{IsMain}
 use Rattle.av_cli.proofs.MainMethods.{main_at, main_from, no_main}
 use Rattle.av_cli.proofs.mains.declares_main.Goals as goal
 

@@ -1,5 +1,5 @@
 use Rattle.std.proofs.Common.{ℕ, ◌<◌}
-use Rattle.av_model.specs.First.Machine.{IsMain}
+use Rattle.calls_model.specs.First.Machine.{IsMain}
 use Rattle.av_cli.proofs.mains.declares_main.Given as goal
 
 -- no method so far is main

@@ -1,5 +1,0 @@
-use Rattle.av_model.proofs.Objects.{leads_keep}
-use Rattle.av_model.proofs.first.runs_keep_objects.Goals as goal
-
-pub returns : goal.returns
-returns c = leads_keep

@@ -1,5 +1,0 @@
-use Rattle.av_report.proofs.Runs.{lines_cover}
-use Rattle.av_report.proofs.first.lines_cover_runs.Goals as goal
-
-pub returns : goal.returns
-returns c = λ class set lines safe closed are. lines_cover class set lines are safe closed

@@ -1,5 +1,0 @@
-use Rattle.av_solve.proofs.Runs.{covers}
-use Rattle.av_solve.proofs.first.closed_facts_cover.Goals as goal
-
-pub returns : goal.returns
-returns c = λ class set safe closed events calls end run. covers class set closed safe events calls end run

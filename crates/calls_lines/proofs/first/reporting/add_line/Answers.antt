@@ -1,0 +1,5 @@
+use Rattle.calls_lines.proofs.Adding.{AddsLines-insert}
+use Rattle.calls_lines.proofs.first.reporting.add_line.Goals as goal
+
+pub returns : goal.returns
+returns c = AddsLines-insert c.args.lines.now c.insert.new.self c.args.line c.in_ok-insert.ensures.ordered c.in_ok-insert.ensures.updates
