@@ -5,6 +5,7 @@ ghost use Rattle.jv_table.specs.Rows.{row_of};
 ghost use Rattle.jv_table.specs.ClassRows.{tag_form, tag_row_form, pool_tag_rows, frame_kind_rows, type_tag_rows};
 
 use crate::table::Table;
+use crate::{tags, vtype_tags};
 
 /// The form of a constant pool item (JVMS 4.4).
 #[derive(Clone, Copy, Debug)]
@@ -44,8 +45,8 @@ pub struct TypeRow {
 }
 
 macro_rules! tag_rows {
-    ($($tag:literal: $parts:expr, $slots:literal;)*) => {
-        [$(($tag, TagRow { tag: $tag, parts: $parts, slots: $slots }),)*]
+    ($($tag:ident: $parts:expr, $slots:literal;)*) => {
+        [$((tags::$tag, TagRow { tag: tags::$tag, parts: $parts, slots: $slots }),)*]
     };
 }
 
@@ -56,8 +57,8 @@ macro_rules! frame_rows {
 }
 
 macro_rules! type_rows {
-    ($($tag:literal: $arg:literal;)*) => {
-        [$(($tag, TypeRow { tag: $tag, arg: $arg }),)*]
+    ($($tag:ident: $arg:literal;)*) => {
+        [$((vtype_tags::$tag, TypeRow { tag: vtype_tags::$tag, arg: $arg }),)*]
     };
 }
 
@@ -66,20 +67,20 @@ pub fn pool_tags() -> Table<u8, TagRow, 14>
     ensures { map tag_row_form result ≡ pool_tag_rows }
 {
     static ROWS: [(u8, TagRow); 14] = tag_rows! {
-        1: &[2], 1;
-        3: &[4], 1;
-        4: &[4], 1;
-        5: &[4, 4], 2;
-        6: &[4, 4], 2;
-        7: &[2], 1;
-        8: &[2], 1;
-        9: &[2, 2], 1;
-        10: &[2, 2], 1;
-        11: &[2, 2], 1;
-        12: &[2, 2], 1;
-        15: &[1, 2], 1;
-        16: &[2], 1;
-        18: &[2, 2], 1;
+        UTF8: &[2], 1;
+        INTEGER: &[4], 1;
+        FLOAT: &[4], 1;
+        LONG: &[4, 4], 2;
+        DOUBLE: &[4, 4], 2;
+        CLASS: &[2], 1;
+        STRING: &[2], 1;
+        FIELDREF: &[2, 2], 1;
+        METHODREF: &[2, 2], 1;
+        INTERFACE_METHODREF: &[2, 2], 1;
+        NAME_AND_TYPE: &[2, 2], 1;
+        METHOD_HANDLE: &[1, 2], 1;
+        METHOD_TYPE: &[2], 1;
+        INVOKE_DYNAMIC: &[2, 2], 1;
     };
     Table::new(&ROWS)
 }
@@ -119,15 +120,15 @@ pub fn type_tags() -> Table<u8, TypeRow, 9>
     ensures { result ≡ type_tag_rows }
 {
     static ROWS: [(u8, TypeRow); 9] = type_rows! {
-        0: false;
-        1: false;
-        2: false;
-        3: false;
-        4: false;
-        5: false;
-        6: false;
-        7: true;
-        8: true;
+        TOP: false;
+        INTEGER: false;
+        FLOAT: false;
+        DOUBLE: false;
+        LONG: false;
+        NULL: false;
+        UNINITIALIZED_THIS: false;
+        OBJECT: true;
+        UNINITIALIZED: true;
     };
     Table::new(&ROWS)
 }
