@@ -18,6 +18,3 @@ pub use frame::{MapFrame, MapType};
 pub use owner::Owner;
 pub use reader::{one_attr_text, read_attr};
 pub use write::put_attr;
-
-#[cfg(test)]
-mod tests;

@@ -11,6 +11,3 @@ pub use cursor::Cursor;
 pub use showing::{ShownByte, shown};
 pub use utf8::{BadText, text_of, units_of};
 pub use writer::Writer;
-
-#[cfg(test)]
-mod tests;

@@ -27,6 +27,3 @@ pub use fault::{BadClass, WriteRefusal};
 pub use read::read_class;
 pub use shaping::shape;
 pub use write::write_class;
-
-#[cfg(test)]
-mod tests;

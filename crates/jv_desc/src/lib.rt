@@ -12,6 +12,3 @@ pub use fault::BadDesc;
 pub use showing::{show_field, show_method};
 pub use types_read::{field_desc, method_desc};
 pub use words::arg_words;
-
-#[cfg(test)]
-mod tests;

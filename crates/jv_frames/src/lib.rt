@@ -24,8 +24,3 @@ pub use laws::{
 pub use maps::frames_of;
 pub use no_typing::NoTyping;
 pub use typing_laws::{moves_have_their_forms, typing_is_a_function};
-
-#[cfg(test)]
-mod map_tests;
-#[cfg(test)]
-mod tests;

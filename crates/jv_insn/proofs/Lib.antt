@@ -23,4 +23,3 @@ pub mod Spelled
 pub mod SpelledInsns
 pub mod SpelledSwitches
 pub mod Tables
-pub mod TestLoop

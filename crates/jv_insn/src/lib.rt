@@ -29,6 +29,3 @@ pub use laws::{
     held_cells_have_kinds, kind_safe_places_are_instructions, rows_are_effects,
 };
 pub use written::{Operands, Written};
-
-#[cfg(test)]
-mod tests;

@@ -18,6 +18,3 @@ pub use pool::Pool;
 pub use pool_writer::PoolWriter;
 pub use reader::{one_pool_text, read_pool};
 pub use write::put_pool;
-
-#[cfg(test)]
-mod tests;

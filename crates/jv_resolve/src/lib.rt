@@ -27,6 +27,3 @@ pub use overriding::overrides;
 pub use refusal::ResolveRefusal;
 pub use selection::{select_interface, select_virtual};
 pub use special::select_special;
-
-#[cfg(test)]
-mod small_worlds;

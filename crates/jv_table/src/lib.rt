@@ -18,6 +18,3 @@ pub use code_tables::{
     Cell, Form, Kind, OpRow, newarray_code, newarray_codes, opcode, opcodes, opcodes_are_numbered,
 };
 pub use table::Table;
-
-#[cfg(test)]
-mod tests;

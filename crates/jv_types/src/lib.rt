@@ -43,6 +43,3 @@ pub use refusal::{Refusal, RulePlace};
 pub use rule::Rule;
 pub use seq::Seq;
 pub use shapes::{FieldShape, MethodShape, Shape};
-
-#[cfg(test)]
-mod body_tests;

@@ -10,6 +10,3 @@ mod steps;
 mod words;
 
 pub use steps::word_step;
-
-#[cfg(test)]
-mod tests;

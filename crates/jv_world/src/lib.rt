@@ -14,6 +14,3 @@ mod world;
 pub use numbered::are_numbered;
 pub use refusal::HierRefusal;
 pub use world::World;
-
-#[cfg(test)]
-mod tests;

@@ -1,0 +1,5 @@
+//! Tests of codes: how they are decoded and encoded.
+#![tactic(auto)]
+
+#[cfg(test)]
+mod insns;
