@@ -1,5 +1,5 @@
 #!/usr/bin/env bash
-# Times reading class files, and reading and writing them: the program `measure_classes` over the class files
+# Times reading class files, and reading and writing them: the program `measure` over the class files
 # below a folder, and beside it one run of `javap -p -c` on all of them, where a JDK is installed. Then a class
 # of n, 2n and 4n methods, and files whose counts are as great as can be, with nothing behind them. Prints
 # megabytes a second, and how many times slower javap is; of the greatest counts microseconds a file and the
@@ -10,11 +10,11 @@ set -eu
 top=$(cd "$(dirname "$0")/.." && pwd)
 work=$(mktemp -d)
 trap 'rm -rf "$work"' EXIT
-(cd "$top/crates/measure_classes" && rt run -- read 0 >/dev/null)
+"$top/bench/build.sh" measure sample
 for n in 5000 10000 20000; do
   python3 "$top/bench/make_class.py" chain "$n" "$work/chain$n.class"
 done
-python3 - "$top/crates/measure_classes/out/measure_classes" "$1" "${2:-100}" "$work" <<'PY'
+python3 - "$top/crates/measure/out/measure" "$1" "${2:-100}" "$work" <<'PY'
 import glob, os, shutil, struct, subprocess, sys, time
 
 program, folder, rounds, work = sys.argv[1], sys.argv[2], int(sys.argv[3]), sys.argv[4]

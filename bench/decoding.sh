@@ -1,5 +1,5 @@
 #!/usr/bin/env bash
-# Times decoding: the program `measure_classes` decodes the codes of all methods of the class files below a
+# Times decoding: the program `measure` decodes the codes of all methods of the class files below a
 # folder. Then one code of n bytes for rising n up to 65,535, the most that a code may have, with 10,000 handlers.
 # Prints instructions by the second, and of a single code microseconds, both of processor time, and the peak
 # memory.
@@ -9,11 +9,11 @@ set -eu
 top=$(cd "$(dirname "$0")/.." && pwd)
 work=$(mktemp -d)
 trap 'rm -rf "$work"' EXIT
-(cd "$top/crates/measure_classes" && rt run -- read 0 >/dev/null)
+"$top/bench/build.sh" measure sample
 for n in 16383 32767 65535; do
   python3 "$top/bench/make_class.py" codes "$n" "$work/codes$n.class"
 done
-python3 - "$top/crates/measure_classes/out/measure_classes" "$1" "${2:-1000}" "$work" <<'PY'
+python3 - "$top/crates/measure/out/measure" "$1" "${2:-1000}" "$work" <<'PY'
 import os, shutil, subprocess, sys
 
 program, folder, rounds, work = sys.argv[1], sys.argv[2], int(sys.argv[3]), sys.argv[4]

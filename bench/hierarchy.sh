@@ -1,26 +1,26 @@
 #!/usr/bin/env bash
-# Times the building of worlds and subtype tests over them: the program `measure_world` on a chain and a fan of
+# Times the building of worlds and subtype tests over them: the program `measure` on a chain and a fan of
 # classes and on a lattice of interfaces, on n and 2n of them. Prints a row a world: how many proper supertypes
 # its classes have together, the seconds and the peak memory of building, nanoseconds and bytes a supertype,
 # and the seconds of a million subtype tests. It builds the program first.
 set -eu
 top=$(cd "$(dirname "$0")/.." && pwd)
-(cd "$top/crates/measure_world" && rt run -- fan 10 1 >/dev/null)
-python3 - "$top/crates/measure_world/out/measure_world" "${1:-5000}" <<'PY'
+"$top/bench/build.sh" measure sample
+python3 - "$top/crates/measure/out/measure" "${1:-5000}" <<'PY'
 import os, subprocess, sys, time
 
 program, classes = sys.argv[1], int(sys.argv[2])
 
 
-def run(family, count, tests):
+def run(*words):
     # the best of three runs: seconds, peak kilobytes, what it printed
     best = None
     for _ in range(3):
         begin = time.monotonic()
-        child = subprocess.Popen([program, family, str(count), str(tests)], stdout=subprocess.PIPE)
+        child = subprocess.Popen([program] + words, stdout=subprocess.PIPE)
         out = child.stdout.read()
         _, status, usage = os.wait4(child.pid, 0)
-        assert status == 0, (family, count)
+        assert status == 0, words
         seconds = usage.ru_utime + usage.ru_stime
         if best is None or seconds < best[0]:
             best = (seconds, usage.ru_maxrss, out)
@@ -29,8 +29,8 @@ def run(family, count, tests):
 
 for family in ("chain", "fan", "lattice"):
     for count in (classes, 2 * classes):
-        built, peak, out = run(family, count, 0)
-        tested, _, _ = run(family, count, 1000000)
+        built, peak, out = run("world", family, str(count), "0")
+        tested, _, _ = run("world", family, str(count), "1000000")
         supers = int(out.split()[0])
         print(
             "%s n=%d supertypes=%d build: %.3f s %d KiB, %.1f ns and %.1f bytes a supertype, a million tests: %.3f s"

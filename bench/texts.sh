@@ -6,7 +6,7 @@ set -eu
 top=$(cd "$(dirname "$0")/.." && pwd)
 work=$(mktemp -d)
 trap 'rm -rf "$work"' EXIT
-(cd "$top/crates/measure" && rt run -- names 1 >/dev/null)
+"$top/bench/build.sh" measure sample
 ours=$top/crates/measure/out/measure
 theirs=
 if command -v rustc >/dev/null 2>&1; then

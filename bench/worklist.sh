@@ -1,13 +1,13 @@
 #!/usr/bin/env bash
-# Times `close` on ten million facts of 32 bytes, each of which forces four: the program `measure_close`, and
+# Times `close` on ten million facts of 32 bytes, each of which forces four: the program `measure close`, and
 # beside it the same work in plain Rust over std's BTreeSet (bench/worklist.rs, rustc -O), where rustc is
 # installed. Prints a row a program: facts, processor seconds, facts a second, and peak bytes of memory a fact.
 set -eu
 top=$(cd "$(dirname "$0")/.." && pwd)
 work=$(mktemp -d)
 trap 'rm -rf "$work"' EXIT
-(cd "$top/crates/measure_close" && rt run -- 1000 >/dev/null)
-ours=$top/crates/measure_close/out/measure_close
+"$top/bench/build.sh" measure sample
+ours=$top/crates/measure/out/measure
 theirs=
 if command -v rustc >/dev/null 2>&1; then
   rustc -O --edition 2021 -o "$work/worklist" "$top/bench/worklist.rs"
@@ -19,8 +19,8 @@ import os, subprocess, sys
 ours, theirs, size = sys.argv[1:]
 
 
-def measure(name, program):
-    child = subprocess.Popen([program, size], stdout=subprocess.PIPE)
+def measure(name, words):
+    child = subprocess.Popen(words + [size], stdout=subprocess.PIPE)
     facts = int(child.stdout.read())
     _, status, used = os.wait4(child.pid, 0)
     assert status == 0, name
@@ -30,9 +30,9 @@ def measure(name, program):
     return facts
 
 
-count = measure("measure_close", ours)
+count = measure("measure close", [ours, "close"])
 if theirs:
-    assert measure("plain Rust", theirs) == count
+    assert measure("plain Rust", [theirs]) == count
 else:
     print("no rustc")
 PY

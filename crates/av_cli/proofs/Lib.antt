@@ -1,7 +1,7 @@
 pub mod Sinks
 pub mod ShownText
-pub mod Concluding
-pub mod Exactness
-pub mod Requests
-pub mod MainMethods
-pub mod Graphs
+pub mod CallsConcluding
+pub mod CallsExactness
+pub mod CallsRequests
+pub mod CallsMains
+pub mod CallsGraphs

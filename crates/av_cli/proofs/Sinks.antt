@@ -7,7 +7,7 @@ use Rattle.jv_host.specs.declared.sink.SinkFault.TheVariants.{Failed, Memory}
 use Rattle.jv_host.specs.Counts.{Rises}
 use Rattle.jv_host.specs.SinkAnswer.{OnSinkFailed, OnSinkLacking, blanks_after}
 use Rattle.calls_lines.specs.First.Lines.{text_of_lines}
-use Rattle.av_cli.specs.Ending.{Says}
+use Rattle.av_cli.specs.Calls.Ending.{Says}
 use Rattle.av_cli.specs.Handing.{SinkState, Takes, NeverFalls, AreCountsKept, Handed}
 
 -- a front of the bytes was taken, and this is the rest

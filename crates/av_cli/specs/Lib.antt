@@ -1,6 +1,3 @@
-pub mod FileKinds
-pub mod Promise
-pub mod Answers
+pub mod Statuses
 pub mod Handing
-pub mod Ending
-pub mod Graphs
+pub mod Calls

@@ -1,18 +1,11 @@
 //! The commands of averroes.
 #![tactic(auto)]
 
-mod command;
-mod graph;
+mod calls;
 mod handing;
-mod mains;
-mod saying;
 mod status;
 mod top;
-mod words;
 
-pub use graph::{GraphError, call_graph};
-pub use status::{Answer, Status};
+pub use calls::{Answer, GraphError, call_graph};
+pub use status::Status;
 pub use top::run;
-
-#[cfg(test)]
-mod top_tests;

@@ -1,11 +1,9 @@
 ghost use Rattle.std.specs.Prelude.{◌≡◌, ◌⊎◌, map, option_map};
 ghost use Rattle.jv_host.specs.Counts.{one_more};
-ghost use Rattle.av_cli.specs.Ending.{Ends, CallsOnlyRead};
+ghost use Rattle.av_cli.specs.Calls.Ending.{Ends, CallsOnlyRead};
 
-use crate::command::print_class;
-use crate::saying::write_answer;
-use crate::status::{Answer, Status};
-use crate::words::request_of;
+use crate::calls::{Answer, print_class, request_of, write_answer};
+use crate::status::Status;
 use jv_host::{Host, Sink};
 use std::alloc::Global;
 

@@ -16,6 +16,3 @@ pub use solving::least_facts;
 pub fn closed_facts_cover()
     ensures { ClosedCover }
 {}
-
-#[cfg(test)]
-mod tests;

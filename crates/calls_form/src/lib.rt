@@ -36,6 +36,3 @@ pub use outline::{Entry, Outline, RawField, RawMethod};
 pub use read::{FILE_LIMIT, class_in_range, one_object_class, read_object_class};
 pub use read_error::ReadError;
 pub use walk::walk_depths;
-
-#[cfg(test)]
-mod tests;

@@ -11,6 +11,3 @@ pub use reporting::{class_lines, fact_lines};
 pub fn lines_cover_runs()
     ensures { LinesCoverRuns }
 {}
-
-#[cfg(test)]
-mod tests;

@@ -16,6 +16,3 @@ pub use mem_sink::MemSink;
 pub use sink::{Sink, SinkFault};
 pub use std_sink::StdSink;
 pub use twins::has_no_twins;
-
-#[cfg(test)]
-mod tests;

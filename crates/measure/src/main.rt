@@ -1,97 +1,90 @@
-//! Work to be timed from outside. `measure WORK ROUNDS` does a piece of work so many times over the same
-//! few texts, and prints how many bytes it went over.
+//! Pieces of work to be timed from outside, each by a word of its own:
+//!
+//! - `read-names`, `names`, `read-descriptors`, `descriptors` ROUNDS: reads a few texts so many times, and
+//!   writes them again; prints how many bytes it went over.
+//! - `read`, `again`, `decode` ROUNDS PATH..: takes each file that a path ending in `.class` names, and each
+//!   class file below every other path, which is a folder. It reads them so many times, or reads them and
+//!   writes them again, or decodes the codes of their methods; prints how many files, codes, bytes and
+//!   instructions these were. With `again` it prints a line for each file that is refused or not written as
+//!   it was. Its status is 0 only where none was refused or changed.
+//! - `world` FAMILY CLASSES TESTS: builds a `chain`, a `fan` or a `lattice` of so many classes, and makes so
+//!   many subtype tests; prints how many proper supertypes the classes have together and how many tests
+//!   answered yes.
+//! - `members` CLASSES METHODS ROUNDS: resolves and selects each of so many methods of the topmost class of a
+//!   chain, from its lowest class, so many times; prints how many were resolved and selected.
+//! - `close` SIZE: goes over a graph of so many nodes, each with four successors, from one of them; prints how
+//!   many it found.
+//! - `sample`: a little of each, over the folder in which it runs.
 #![tactic(auto)]
 
+mod classes;
+mod codes;
+mod files;
+mod graph;
+mod members;
+mod node;
+mod rounds;
+mod texts;
+mod worlds;
+
 use anyhow::{Context, Result, bail};
-use jv_bytes::{text_of, units_of};
-use jv_desc::{field_desc, method_desc, show_field, show_method};
-use std::alloc::Global;
+use classes::measure_classes;
+use graph::measure_close;
+use members::measure_members;
 use std::env;
+use texts::measure_texts;
+use worlds::measure_world;
 
-static NAMES: [&[u8]; 6] = [
-    b"java/lang/Object",
-    b"<init>",
-    b"toString",
-    b"app/\xe3\x83\x86\xe3\x82\xb9\xe3\x83\x88/Gr\xc3\xb6\xc3\x9fe",
-    b"\xc0\x80\xed\xa0\xbd\xed\xb8\x80",
-    b"org/example/project/internal/AVeryLongNameOfAClassThatGoesOn",
-];
+const USAGE: &str = "measure WORK NUMBER..";
 
-static FIELDS: [&[u8]; 4] = [
-    b"I",
-    b"[[J",
-    b"Ljava/lang/String;",
-    b"[[[Lorg/example/project/internal/Node;",
-];
-
-static METHODS: [&[u8]; 4] = [
-    b"()V",
-    b"(IJ[Ljava/lang/Object;)V",
-    b"([Ljava/lang/String;)V",
-    b"(Ljava/lang/Object;ILjava/lang/Object;II)Ljava/util/Map;",
-];
-
-/// Reads each name, and writes it again where asked.
-fn names(alloc: Global, writes: bool) -> Result<u64> {
-    let mut bytes = 0u64;
-    for name in NAMES.iter() {
-        let units = units_of(alloc, name)
-            .ok()
-            .context("a name that is no text")?;
-        bytes = bytes.saturating_add(name.len() as u64);
-        if writes {
-            let text = text_of(alloc, &units)?;
-            bytes = bytes.saturating_add(text.len() as u64);
-        }
-    }
-    Ok(bytes)
+/// The word at a place.
+fn word(words: &[String], place: usize) -> Result<&str> {
+    Ok(words.get(place).context(USAGE)?.as_str())
 }
 
-/// Reads each descriptor, and shows it again where asked.
-fn descriptors(alloc: Global, shows: bool) -> Result<u64> {
-    let mut bytes = 0u64;
-    for text in FIELDS.iter() {
-        let desc = field_desc(alloc, text).ok().context("no field descriptor")?;
-        bytes = bytes.saturating_add(text.len() as u64);
-        if shows {
-            let shown = show_field(alloc, &desc)?;
-            bytes = bytes.saturating_add(shown.len() as u64);
-        }
-    }
-    for text in METHODS.iter() {
-        let desc = method_desc(alloc, text)
-            .ok()
-            .context("no method descriptor")?;
-        bytes = bytes.saturating_add(text.len() as u64);
-        if shows {
-            let shown = show_method(alloc, &desc)?;
-            bytes = bytes.saturating_add(shown.len() as u64);
-        }
-    }
-    Ok(bytes)
+/// The number at a place.
+fn number(words: &[String], place: usize) -> Result<u32> {
+    let number = word(words, place)?.parse::<u32>();
+    number.context("the word isn't a number")
 }
 
-/// One round of a piece of work.
-fn work(alloc: Global, name: &str) -> Result<u64> {
+/// A little of each piece of work.
+fn sample(rt: &HostRuntime) -> Result<()> {
+    measure_texts(rt, "names", 2)?;
+    measure_texts(rt, "descriptors", 2)?;
+    measure_classes(rt, "again", 2, &["."])?;
+    measure_classes(rt, "decode", 1, &["."])?;
+    measure_world(rt, "lattice", 30, 10)?;
+    measure_members(rt, 5, 10, 1)?;
+    measure_close(rt, 1000)
+}
+
+/// The piece of work that the words name.
+fn work(rt: &HostRuntime, words: &[String]) -> Result<()> {
+    let name = word(words, 0)?;
     match name {
-        "read-names" => names(alloc, false),
-        "names" => names(alloc, true),
-        "read-descriptors" => descriptors(alloc, false),
-        "descriptors" => descriptors(alloc, true),
-        _ => bail!("no such work"),
+        "read-names" | "names" | "read-descriptors" | "descriptors" => {
+            measure_texts(rt, name, number(words, 1)?)
+        }
+        "read" | "again" | "decode" => {
+            let mut paths = Vec::new(rt.alloc());
+            for path in words.iter().skip(2) {
+                paths.push(path.as_str())?;
+            }
+            measure_classes(rt, name, number(words, 1)?, &paths)
+        }
+        "world" => measure_world(rt, word(words, 1)?, number(words, 2)?, number(words, 3)?),
+        "members" => measure_members(rt, number(words, 1)?, number(words, 2)?, number(words, 3)?),
+        "close" => measure_close(rt, number(words, 1)?),
+        "sample" => sample(rt),
+        _ => bail!("{USAGE}"),
     }
 }
 
 fn main(rt: HostRuntime) -> Result<()> {
-    let mut args = env::args(&rt)?;
-    let _program = args.next();
-    let name = args.next().context("measure WORK ROUNDS")?;
-    let rounds = args.next().context("measure WORK ROUNDS")?;
-    let rounds = rounds.parse::<u32>().context("the rounds are a number")?;
-    let mut bytes = 0u64;
-    for _ in 0..rounds {
-        bytes = bytes.saturating_add(work(rt.alloc(), &name)?);
+    let mut words = Vec::new(rt.alloc());
+    for word in env::args(&rt)?.skip(1) {
+        words.push(word)?;
     }
-    println!(rt; "{bytes}")?;
-    Ok(())
+    work(&rt, &words)
 }

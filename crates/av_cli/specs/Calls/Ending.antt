@@ -1,0 +1,134 @@
+-- How the command that prints the calls of one class ends: what each answer says of the words, the file
+-- and the two sinks.
+use Rattle.std.specs.Prelude.{◌≡◌, ◌≢◌, ◌⊎◌, ℕ, List, [], ◌∷◌, ◌++◌, Option, Some, None, IfSome, option_map}
+use Rattle.jv_host.specs.declared.host.HostFile.{HostFile}
+use Rattle.jv_host.specs.declared.host.HostCall.{HostCall}
+use Rattle.jv_host.specs.declared.host.HostCall.TheVariants.{ReadFile}
+use Rattle.jv_host.specs.Counts.{Rises}
+use Rattle.jv_host.specs.Files.{bytes_of}
+use Rattle.calls_form.specs.declared.object_class.ObjectClass.{ObjectClass}
+use Rattle.calls_form.specs.ObjectForm.{IsObjectClass}
+use Rattle.av_cli.specs.declared.status.Status.{Status}
+use Rattle.av_cli.specs.declared.calls.answer.Answer.{Answer}
+use Rattle.av_cli.specs.declared.calls.answer.Answer.TheVariants.{Printed, Misused, Unreadable, NoFile, TooLarge, NotClass, OutsideForm, NoMain, Unwritable, OutOfMemory}
+use Rattle.av_cli.specs.Calls.Promise.{IsCallGraph}
+use Rattle.av_cli.specs.Calls.FileKinds.{IsTooLarge, IsClassFile, IsNoClass, IsOutsideForm, DeclaresMain, LacksMain}
+use Rattle.av_cli.specs.Handing.{SinkState, Takes, TakesFront, AreCountsKept}
+use Rattle.av_cli.specs.Calls.Answers.{status_of, file_name, file_most, request, class_of_words, error_line}
+
+-- what a command sees of the outside: the files, where the host tells them, how its count of failed
+-- reads moved, the call that failed last, where it tells that, and the printed output
+pub record Outside : Type 0 where
+  pub files : Option (List HostFile)
+  pub reads_before : ℕ
+  pub reads_after : ℕ
+  pub failed : Option (Option HostCall)
+  pub out_before : SinkState
+  pub out_after : SinkState
+
+-- where files are told, the class's file under the root has these bytes
+abbrev pub HasFile : Outside → List ℕ → List ℕ → List ℕ → Type 0
+HasFile o root name bytes = IfSome o.files (λ told. bytes_of told root (file_name name) ≡ Some bytes)
+
+abbrev pub NothingPrinted : Outside → Type 0
+NothingPrinted o = o.out_after ≡ o.out_before
+
+-- what an answer says of the bytes of the class's file, and of the printed output before and after
+abbrev pub Prints : List ℕ → List ℕ → SinkState → SinkState → Answer → Type 0
+-- the lines of the class were printed, and nothing else, and no print failed
+Prints name bytes old new Printed = (text : List ℕ) × IsCallGraph name bytes text × Takes old new text × AreCountsKept old new
+Prints name bytes old new TooLarge = IsTooLarge bytes × (new ≡ old)
+Prints name bytes old new NotClass = IsNoClass bytes × (new ≡ old)
+Prints name bytes old new OutsideForm = IsOutsideForm name bytes × (new ≡ old)
+Prints name bytes old new NoMain = LacksMain name bytes × (new ≡ old)
+-- the printed output failed behind a front of the lines
+Prints name bytes old new Unwritable =
+    (text : List ℕ) × IsCallGraph name bytes text × TakesFront old new text × Rises old.faults new.faults
+-- nothing was printed, or a front of the lines
+Prints name bytes old new OutOfMemory = (new ≡ old) ⊎ ((text : List ℕ) × IsCallGraph name bytes text × TakesFront old new text)
+-- the other answers say nothing of bytes
+Prints name bytes old new Misused = ⊥
+Prints name bytes old new Unreadable = ⊥
+Prints name bytes old new NoFile = ⊥
+
+-- an answer about the bytes of the file
+abbrev pub ConcludesBytes : Outside → List ℕ → List ℕ → Answer → Type 0
+ConcludesBytes o root name answer =
+    (bytes : List ℕ) × HasFile o root name bytes × Prints name bytes o.out_before o.out_after answer
+
+-- what an answer says, where the words name a root and a class
+abbrev pub Concludes : Outside → List ℕ → List ℕ → Answer → Type 0
+Concludes o root name Printed = ConcludesBytes o root name Printed
+Concludes o root name TooLarge = ConcludesBytes o root name TooLarge
+Concludes o root name NotClass = ConcludesBytes o root name NotClass
+Concludes o root name OutsideForm = ConcludesBytes o root name OutsideForm
+Concludes o root name NoMain = ConcludesBytes o root name NoMain
+Concludes o root name Unwritable = ConcludesBytes o root name Unwritable
+-- memory may be wanting before the file is read, too
+Concludes o root name OutOfMemory = NothingPrinted o ⊎ ConcludesBytes o root name OutOfMemory
+-- the read of that file failed
+Concludes o root name Unreadable =
+    Rises o.reads_before o.reads_after × IfSome o.failed (λ call. call ≡ Some (ReadFile root (file_name name) file_most)) × NothingPrinted o
+Concludes o root name NoFile = IfSome o.files (λ told. bytes_of told root (file_name name) ≡ None) × NothingPrinted o
+Concludes o root name Misused = ⊥
+
+-- the words are no command
+abbrev pub AreMisused : List (List ℕ) → Type 0
+AreMisused words = (root name : List ℕ) → words ≢ request root name
+
+-- the cause of an answer
+abbrev pub HasCause : List (List ℕ) → Outside → Answer → Type 0
+HasCause words o Misused = AreMisused words × NothingPrinted o
+HasCause words o answer = (root : List ℕ) × (name : List ℕ) × (words ≡ request root name) × Concludes o root name answer
+
+-- the answer that words and told files determine, where nothing fails
+abbrev pub IsDue : List (List ℕ) → List HostFile → Answer → Type 0
+IsDue words told Printed =
+    (root : List ℕ) × (name : List ℕ) × (bytes : List ℕ) × (class : ObjectClass) × (words ≡ request root name)
+    × (bytes_of told root (file_name name) ≡ Some bytes) × IsClassFile bytes × IsObjectClass name bytes class × DeclaresMain class
+IsDue words told Misused = AreMisused words
+IsDue words told NoFile = (root : List ℕ) × (name : List ℕ) × (words ≡ request root name) × (bytes_of told root (file_name name) ≡ None)
+IsDue words told TooLarge =
+    (root : List ℕ) × (name : List ℕ) × (bytes : List ℕ) × (words ≡ request root name)
+    × (bytes_of told root (file_name name) ≡ Some bytes) × IsTooLarge bytes
+IsDue words told NotClass =
+    (root : List ℕ) × (name : List ℕ) × (bytes : List ℕ) × (words ≡ request root name)
+    × (bytes_of told root (file_name name) ≡ Some bytes) × IsNoClass bytes
+IsDue words told OutsideForm =
+    (root : List ℕ) × (name : List ℕ) × (bytes : List ℕ) × (words ≡ request root name)
+    × (bytes_of told root (file_name name) ≡ Some bytes) × IsOutsideForm name bytes
+IsDue words told NoMain =
+    (root : List ℕ) × (name : List ℕ) × (bytes : List ℕ) × (words ≡ request root name)
+    × (bytes_of told root (file_name name) ≡ Some bytes) × LacksMain name bytes
+IsDue words told Unreadable = ⊥
+IsDue words told Unwritable = ⊥
+IsDue words told OutOfMemory = ⊥
+
+-- neither the host's reads nor the printed output failed
+pub record IsFaultless (o : Outside) : Type 0 where
+  pub reads : ¬ Rises o.reads_before o.reads_after
+  pub writes : ¬ Rises o.out_before.faults o.out_after.faults
+
+-- a sink took a line and nothing failed, or only a front of it and a count of its own rose
+abbrev pub Says : SinkState → SinkState → List ℕ → Type 0
+Says old new line = (Takes old new line × AreCountsKept old new) ⊎ (TakesFront old new line × (Rises old.faults new.faults ⊎ Rises old.lacks new.lacks))
+
+-- how the command ended
+pub record Ends (words : List (List ℕ)) (o : Outside) (err_before err_after : SinkState) (status : Status) : Type 0 where
+  pub answer : Answer
+  -- the status is the answer's
+  pub status_is : status ≡ status_of answer
+  -- the answer has its cause
+  pub cause : HasCause words o answer
+  -- it is the answer that is due, unless something fails or memory is wanting
+  pub exact : (told : List HostFile) → o.files ≡ Some told → (due : Answer) → IsDue words told due → IsFaultless o
+      → (answer ≡ due) ⊎ (answer ≡ OutOfMemory)
+  -- and err was told so
+  pub said : Says err_before err_after (error_line (class_of_words words) answer)
+
+-- the calls of the host, where it tells them: at most the one read of the class's file
+abbrev pub CallsOnlyRead : List (List ℕ) → Option (List HostCall) → Option (List HostCall) → Type 0
+CallsOnlyRead words before after =
+    (after ≡ before)
+    ⊎ ((root : List ℕ) × (name : List ℕ) × (words ≡ request root name)
+    × (after ≡ option_map (λ calls. calls ++ ReadFile root (file_name name) file_most ∷ []) before))
