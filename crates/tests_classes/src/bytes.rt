@@ -1,48 +1,42 @@
+use crate::text::{hex, three_words};
 use jv_bytes::{BadText, Cursor, ShownByte, Writer, laws, shown, text_of, units_of};
-use std::test::*;
+use std::alloc::{AllocError, Global};
+use std::test::Fail;
 
-#[test]
-fn reads_texts(rt: HostRuntime) -> Result<(), Fail> {
-    let units = units_of(rt.alloc(), &[0xc0, 0x80]).ok().ok_or("a text")?;
-    assert_eq!(rt; units.as_slice(), [0].as_slice());
-    assert_eq!(rt;
-        units_of(rt.alloc(), &[0xc1, 0x81]).err(),
-        Some(BadText::Bad)
-    );
-    assert_eq!(rt; units_of(rt.alloc(), &[0x00]).err(), Some(BadText::Bad));
-    assert_eq!(rt;
-        units_of(rt.alloc(), &[0xe0, 0x9f, 0xbf]).err(),
-        Some(BadText::Bad)
-    );
-    assert_eq!(rt;
-        units_of(rt.alloc(), &[0xf0, 0x9f, 0x98, 0x80]).err(),
-        Some(BadText::Bad)
-    );
-    Ok(())
+/// Texts in modified UTF-8 (JVMS 4.4.7), each with its units or `bad`.
+const TEXTS: &str = "\
+c080 0000
+c08041e282ac 0000004120ac
+c080017fc280dfbfe0a080efbfbfeda0bdedb880 00000001007f008007ff0800ffffd83dde00
+00 bad
+c181 bad
+e09fbf bad
+f09f9880 bad";
+
+/// The bytes of units, two each.
+fn bytes_of(alloc: Global, units: &[u16]) -> Result<Vec<u8>, AllocError> {
+    let mut writer = Writer::new(alloc);
+    for unit in units {
+        writer.put_u2(*unit)?;
+    }
+    Ok(writer.done())
 }
 
-#[test]
-fn writes_texts(rt: HostRuntime) -> Result<(), Fail> {
-    let text = text_of(rt.alloc(), &[0, 0x41, 0x20ac])?;
-    assert_eq!(rt;
-        text.as_slice(),
-        [0xc0, 0x80, 0x41, 0xe2, 0x82, 0xac].as_slice()
-    );
-    Ok(())
-}
-
-// The units at which the number of bytes changes, and U+1F600 as two surrogates.
 #[test]
 fn texts_go_both_ways(rt: HostRuntime) -> Result<(), Fail> {
-    let units = [0, 1, 0x7f, 0x80, 0x7ff, 0x800, 0xffff, 0xd83d, 0xde00];
-    let spelled = [
-        0xc0, 0x80, 0x01, 0x7f, 0xc2, 0x80, 0xdf, 0xbf, 0xe0, 0xa0, 0x80, 0xef, 0xbf, 0xbf, 0xed,
-        0xa0, 0xbd, 0xed, 0xb8, 0x80,
-    ];
-    let text = text_of(rt.alloc(), &units)?;
-    assert_eq!(rt; text.as_slice(), spelled.as_slice());
-    let again = units_of(rt.alloc(), &spelled).ok().ok_or("a text")?;
-    assert_eq!(rt; again.as_slice(), units.as_slice());
+    for line in TEXTS.lines() {
+        let (text, units, _) = three_words(line);
+        let bytes = hex(rt.alloc(), text)?;
+        match units_of(rt.alloc(), &bytes) {
+            Err(refusal) => assert!(rt; refusal == BadText::Bad && units == "bad", "at {line}"),
+            Ok(read) => {
+                let wanted = hex(rt.alloc(), units)?;
+                assert_eq!(rt; bytes_of(rt.alloc(), &read)?.as_slice(), wanted.as_slice());
+                let again = text_of(rt.alloc(), &read)?;
+                assert_eq!(rt; again.as_slice(), bytes.as_slice());
+            }
+        }
+    }
     Ok(())
 }
 
@@ -66,12 +60,18 @@ fn counts_short_texts(rt: HostRuntime) {
     assert_eq!(rt; twos, 18050);
 }
 
+/// Bytes and how they are shown.
+const SHOWN: &str = "\
+61206225 a%20b%25
+001f217e7fff %00%1F!~%7F%FF";
+
 #[test]
 fn shows_texts(rt: HostRuntime) -> Result<(), Fail> {
-    let text = shown(rt.alloc(), b"a b%")?;
-    assert_eq!(rt; text.as_slice(), b"a%20b%25".as_slice());
-    let edges = shown(rt.alloc(), &[0x00, 0x1f, 0x21, 0x7e, 0x7f, 0xff])?;
-    assert_eq!(rt; edges.as_slice(), b"%00%1F!~%7F%FF".as_slice());
+    for line in SHOWN.lines() {
+        let (bytes, wanted, _) = three_words(line);
+        let text = shown(rt.alloc(), &hex(rt.alloc(), bytes)?)?;
+        assert_eq!(rt; text.as_slice(), wanted.as_bytes());
+    }
     assert_eq!(rt; ShownByte::new(b'%').as_slice(), b"%25".as_slice());
     Ok(())
 }
@@ -83,8 +83,8 @@ fn writes_numbers(rt: HostRuntime) -> Result<(), Fail> {
     writer.put_u2(2)?;
     writer.put_u4(3)?;
     writer.bytes(&[9])?;
-    let bytes = writer.done();
-    assert_eq!(rt; bytes.as_slice(), [1, 0, 2, 0, 0, 0, 3, 9].as_slice());
+    let wanted = hex(rt.alloc(), "0100020000000309")?;
+    assert_eq!(rt; writer.done().as_slice(), wanted.as_slice());
     Ok(())
 }
 

@@ -1,142 +1,121 @@
 //! A class file as `javac` wrote it, read, and files that differ from it in a byte or two.
 
+use crate::text::{hex, three_words};
 use jv_bytes::Writer;
 use jv_class::{BadClass, read_class, shape, write_class};
-use jv_types::{Copied, Shape};
+use jv_types::Copied;
 use std::alloc::{AllocError, Global};
 use std::test::Fail;
 
-// `class Hello { public static void main(String[] args) { System.out.println("hi"); } }`, compiled by
-// `javac --release 8`.
-const HELLO: [u8; 406] = [
-    202, 254, 186, 190, 0, 0, 0, 52, 0, 29, 10, 0, 2, 0, 3, 7, 0, 4, 12, 0, 5, 0, 6, 1, 0, 16, 106,
-    97, 118, 97, 47, 108, 97, 110, 103, 47, 79, 98, 106, 101, 99, 116, 1, 0, 6, 60, 105, 110, 105,
-    116, 62, 1, 0, 3, 40, 41, 86, 9, 0, 8, 0, 9, 7, 0, 10, 12, 0, 11, 0, 12, 1, 0, 16, 106, 97,
-    118, 97, 47, 108, 97, 110, 103, 47, 83, 121, 115, 116, 101, 109, 1, 0, 3, 111, 117, 116, 1, 0,
-    21, 76, 106, 97, 118, 97, 47, 105, 111, 47, 80, 114, 105, 110, 116, 83, 116, 114, 101, 97, 109,
-    59, 8, 0, 14, 1, 0, 2, 104, 105, 10, 0, 16, 0, 17, 7, 0, 18, 12, 0, 19, 0, 20, 1, 0, 19, 106,
-    97, 118, 97, 47, 105, 111, 47, 80, 114, 105, 110, 116, 83, 116, 114, 101, 97, 109, 1, 0, 7,
-    112, 114, 105, 110, 116, 108, 110, 1, 0, 21, 40, 76, 106, 97, 118, 97, 47, 108, 97, 110, 103,
-    47, 83, 116, 114, 105, 110, 103, 59, 41, 86, 7, 0, 22, 1, 0, 5, 72, 101, 108, 108, 111, 1, 0,
-    4, 67, 111, 100, 101, 1, 0, 15, 76, 105, 110, 101, 78, 117, 109, 98, 101, 114, 84, 97, 98, 108,
-    101, 1, 0, 4, 109, 97, 105, 110, 1, 0, 22, 40, 91, 76, 106, 97, 118, 97, 47, 108, 97, 110, 103,
-    47, 83, 116, 114, 105, 110, 103, 59, 41, 86, 1, 0, 10, 83, 111, 117, 114, 99, 101, 70, 105,
-    108, 101, 1, 0, 10, 72, 101, 108, 108, 111, 46, 106, 97, 118, 97, 0, 33, 0, 21, 0, 2, 0, 0, 0,
-    0, 0, 2, 0, 1, 0, 5, 0, 6, 0, 1, 0, 23, 0, 0, 0, 29, 0, 1, 0, 1, 0, 0, 0, 5, 42, 183, 0, 1,
-    177, 0, 0, 0, 1, 0, 24, 0, 0, 0, 6, 0, 1, 0, 0, 0, 1, 0, 9, 0, 25, 0, 26, 0, 1, 0, 23, 0, 0, 0,
-    37, 0, 2, 0, 1, 0, 0, 0, 9, 178, 0, 7, 18, 13, 182, 0, 15, 177, 0, 0, 0, 1, 0, 24, 0, 0, 0, 10,
-    0, 2, 0, 0, 0, 3, 0, 8, 0, 4, 0, 1, 0, 27, 0, 0, 0, 2, 0, 28,
-];
+/// `class Hello { public static void main(String[] args) { System.out.println("hi"); } }`, compiled by
+/// `javac --release 8`.
+const HELLO: &str = "\
+cafebabe00000034001d0a000200030700040c000500060100106a6176612f6c616e672f4f626a6563740100063c\
+696e69743e010003282956090008000907000a0c000b000c0100106a6176612f6c616e672f53797374656d010003\
+6f75740100154c6a6176612f696f2f5072696e7453747265616d3b08000e01000268690a001000110700120c0013\
+00140100136a6176612f696f2f5072696e7453747265616d0100077072696e746c6e010015284c6a6176612f6c61\
+6e672f537472696e673b295607001601000548656c6c6f010004436f646501000f4c696e654e756d626572546162\
+6c650100046d61696e010016285b4c6a6176612f6c616e672f537472696e673b295601000a536f7572636546696c\
+6501000a48656c6c6f2e6a617661002100150002000000000002000100050006000100170000001d000100010000\
+00052ab70001b10000000100180000000600010000000100090019001a00010017000000250002000100000009b2\
+0007120db6000fb10000000100180000000a000200000003000800040001001b00000002001c";
 
-// A class `L` up to the length of the one attribute, `Code`, of its method `main`.
-const LONG: [u8; 100] = [
-    202, 254, 186, 190, 0, 0, 0, 52, 0, 8, 1, 0, 1, 76, 7, 0, 1, 1, 0, 16, 106, 97, 118, 97, 47,
-    108, 97, 110, 103, 47, 79, 98, 106, 101, 99, 116, 7, 0, 3, 1, 0, 4, 109, 97, 105, 110, 1, 0,
-    22, 40, 91, 76, 106, 97, 118, 97, 47, 108, 97, 110, 103, 47, 83, 116, 114, 105, 110, 103, 59,
-    41, 86, 1, 0, 4, 67, 111, 100, 101, 0, 33, 0, 2, 0, 4, 0, 0, 0, 0, 0, 1, 0, 9, 0, 5, 0, 6, 0,
-    1, 0, 7,
-];
+/// A class `L` up to the length of the one attribute, `Code`, of its method `main`.
+const LONG: &str = "\
+cafebabe0000003400080100014c0700010100106a6176612f6c616e672f4f626a6563740700030100046d61696e\
+010016285b4c6a6176612f6c616e672f537472696e673b2956010004436f64650021000200040000000000010009\
+0005000600010007";
 
-// Whether the file is a class where these bytes stand at these places of it.
-fn is_class_with(alloc: Global, bytes: &[(usize, u8)]) -> Result<bool, Fail> {
-    let mut file = Vec::from_slice(alloc, &HELLO)?;
-    for (at, byte) in bytes {
-        if let Some(place) = file.get_mut(*at) {
+/// Bytes of the class file that are other ones, each after its place of two bytes, and whether it is a class
+/// then; behind that, what it has.
+const CHANGES: &str = "\
+bad 000000 the magic number
+bad 000800,000900 0 as the count of the pool
+bad 0008ff,0009ff 65535 as the count of the pool
+bad 00cd2e the name of the class with a dot
+bad 001a5b a name that begins as an array
+bad 007dc1,007e81 a spelling that is longer than needed
+bad 012504 the class by the index of a text
+bad 01271d a superclass that is out of range
+bad 00eb3c the name of a method with a <
+bad 00f249 a descriptor of no method
+bad 015904 main both static and abstract
+bad 015901 main native with a code
+bad 015c05,015e06 a second method of the name and the descriptor of the first
+bad 016e08 a code one byte shorter
+bad 016e0a a code one byte longer
+ok 012600,012700 no superclass
+ok 012280 an unknown flag
+ok 000401,000501 another minor version
+ok 007d5b a name that begins as it may not, but that no class has";
+
+/// Puts a byte at a place of the file, of a text of both.
+fn change(alloc: Global, file: &mut Vec<u8>, text: &str) -> Result<(), AllocError> {
+    if let [high, low, byte] = hex(alloc, text)?.as_slice() {
+        if let Some(place) = file.get_mut(usize::from(u16::from_be_bytes([*high, *low]))) {
             *place = *byte;
         }
     }
-    Ok(read_class(alloc, &file).is_ok())
+    Ok(())
+}
+
+#[test]
+fn tells_changed_files(rt: HostRuntime) -> Result<(), Fail> {
+    for line in CHANGES.lines() {
+        let (wanted, changes, _) = three_words(line);
+        let mut file = hex(rt.alloc(), HELLO)?;
+        for text in changes.split(',') {
+            change(rt.alloc(), &mut file, text)?;
+        }
+        match read_class(rt.alloc(), &file) {
+            Ok(_) => assert_eq!(rt; wanted, "ok", "at {line}"),
+            Err(refusal) => {
+                assert!(rt;
+                    wanted == "bad" && refusal == BadClass::NotClass,
+                    "at {line}"
+                );
+            }
+        }
+    }
+    Ok(())
 }
 
 #[test]
 fn reads_a_class(rt: HostRuntime) -> Result<(), Fail> {
-    let class = read_class(rt.alloc(), &HELLO)?;
-    assert_eq!(rt; class.major, 52);
-    assert_eq!(rt; class.methods.len(), 2);
-    assert_eq!(rt; class.attrs.len(), 1);
-    Ok(())
-}
-
-#[test]
-fn writes_what_it_read(rt: HostRuntime) -> Result<(), Fail> {
-    let class = read_class(rt.alloc(), &HELLO)?;
+    let file = hex(rt.alloc(), HELLO)?;
+    let class = read_class(rt.alloc(), &file)?;
+    assert_eq!(rt;
+        (class.major, class.methods.len(), class.attrs.len()),
+        (52, 2, 1)
+    );
     let written = write_class(rt.alloc(), &class)?;
-    assert!(rt; written.as_slice() == HELLO.as_slice());
+    assert_eq!(rt; written.as_slice(), file.as_slice());
     Ok(())
 }
 
 #[test]
-fn refuses_each_front(rt: HostRuntime) {
-    for len in 0..HELLO.len() {
-        let front = read_class(rt.alloc(), &HELLO[..len]).err();
+fn refuses_each_front(rt: HostRuntime) -> Result<(), Fail> {
+    let file = hex(rt.alloc(), HELLO)?;
+    for len in 0..file.len() {
+        let front = read_class(rt.alloc(), &file[..len]).err();
         assert_eq!(rt; front, Some(BadClass::NotClass), "of {len} bytes");
     }
+    Ok(())
 }
 
 #[test]
 fn refuses_a_byte_more(rt: HostRuntime) -> Result<(), Fail> {
-    let mut file = Vec::from_slice(rt.alloc(), &HELLO)?;
+    let mut file = hex(rt.alloc(), HELLO)?;
     file.push(0)?;
     let more = read_class(rt.alloc(), &file).err();
     assert_eq!(rt; more, Some(BadClass::NotClass));
     Ok(())
 }
 
-#[test]
-fn refuses_other_bytes(rt: HostRuntime) -> Result<(), Fail> {
-    let files: [&[(usize, u8)]; 15] = [
-        // the magic number
-        &[(0, 0)],
-        // 0 and 65535 as the count of the pool
-        &[(8, 0), (9, 0)],
-        &[(8, 255), (9, 255)],
-        // the name of the class with a `.`, and a name that begins as an array
-        &[(205, b'.')],
-        &[(26, b'[')],
-        // a spelling that is longer than needed
-        &[(125, 0xc1), (126, 0x81)],
-        // the class by the index of a text, and a superclass that is out of range
-        &[(293, 4)],
-        &[(295, 29)],
-        // a method's name with a `<`, and a descriptor of no method
-        &[(235, b'<')],
-        &[(242, b'I')],
-        // `main` both static and abstract, and native with a code
-        &[(345, 4)],
-        &[(345, 1)],
-        // a second method of the name and the descriptor of the first
-        &[(348, 5), (350, 6)],
-        // a code one byte shorter, and one byte longer
-        &[(366, 8)],
-        &[(366, 10)],
-    ];
-    for bytes in files {
-        assert!(rt; !is_class_with(rt.alloc(), bytes)?);
-    }
-    Ok(())
-}
-
-#[test]
-fn accepts_other_bytes(rt: HostRuntime) -> Result<(), Fail> {
-    let files: [&[(usize, u8)]; 4] = [
-        // no superclass
-        &[(294, 0), (295, 0)],
-        // an unknown flag, and another minor version
-        &[(290, 0x80)],
-        &[(4, 1), (5, 1)],
-        // a name that begins as it may not, but that no class has
-        &[(125, b'[')],
-    ];
-    for bytes in files {
-        assert!(rt; is_class_with(rt.alloc(), bytes)?);
-    }
-    Ok(())
-}
-
 // The class `L`, whose `main` has as many bytes of code: nop, and a return at the end.
 fn long_class(alloc: Global, len: u32) -> Result<Vec<u8>, AllocError> {
     let mut writer = Writer::new(alloc);
-    writer.bytes(&LONG)?;
+    writer.bytes(&hex(alloc, LONG)?)?;
     writer.put_u4(len.saturating_add(12))?;
     writer.put_u4(1)?;
     writer.put_u4(len)?;
@@ -159,15 +138,11 @@ fn reads_the_longest_code(rt: HostRuntime) -> Result<(), Fail> {
     Ok(())
 }
 
-// What the file declares.
-fn shape_of(alloc: Global) -> Result<Shape, Fail> {
-    let class = read_class(alloc, &HELLO)?;
-    Ok(shape(alloc, &class, true)?)
-}
-
 #[test]
 fn shapes_a_class(rt: HostRuntime) -> Result<(), Fail> {
-    let shape = shape_of(rt.alloc())?;
+    let file = hex(rt.alloc(), HELLO)?;
+    let class = read_class(rt.alloc(), &file)?;
+    let shape = shape(rt.alloc(), &class, true)?;
     assert_eq!(rt; shape.name.as_slice(), b"Hello".as_slice());
     match shape.methods.as_slice() {
         [init, main] => {

@@ -15,4 +15,6 @@ mod pool;
 #[cfg(test)]
 mod table;
 #[cfg(test)]
+mod text;
+#[cfg(test)]
 mod types;
