@@ -1,4 +1,3 @@
-use crate::text::{hex, three_words};
 use jv_attr::{
     Attr, AttrBody, BadAttr, MapType, Owner, has_few, one_attr_text, put_attr, read_attr,
 };
@@ -6,6 +5,7 @@ use jv_bytes::{Cursor, Writer};
 use jv_pool::{Pool, read_pool};
 use std::alloc::Global;
 use std::test::Fail;
+use tests_text::{hex, three_words};
 
 /// A pool with `Code` at 1, `LineNumberTable` at 2, `StackMapTable` at 3, and the class `A` at 5.
 const POOL: &str = "0006010004436f6465\

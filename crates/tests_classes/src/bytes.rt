@@ -1,7 +1,7 @@
-use crate::text::{hex, three_words};
 use jv_bytes::{BadText, Cursor, ShownByte, Writer, laws, shown, text_of, units_of};
 use std::alloc::{AllocError, Global};
 use std::test::Fail;
+use tests_text::{hex, three_words};
 
 /// Texts in modified UTF-8 (JVMS 4.4.7), each with its units or `bad`.
 const TEXTS: &str = "\

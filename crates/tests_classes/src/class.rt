@@ -1,11 +1,11 @@
 //! A class file as `javac` wrote it, read, and files that differ from it in a byte or two.
 
-use crate::text::{hex, three_words};
 use jv_bytes::Writer;
 use jv_class::{BadClass, read_class, shape, write_class};
 use jv_types::Copied;
 use std::alloc::{AllocError, Global};
 use std::test::Fail;
+use tests_text::{hex, three_words};
 
 /// `class Hello { public static void main(String[] args) { System.out.println("hi"); } }`, compiled by
 /// `javac --release 8`.

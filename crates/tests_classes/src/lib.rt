@@ -15,6 +15,4 @@ mod pool;
 #[cfg(test)]
 mod table;
 #[cfg(test)]
-mod text;
-#[cfg(test)]
 mod types;

@@ -1,9 +1,9 @@
-use crate::text::{hex, three_words};
 use jv_bytes::{Cursor, Writer};
 use jv_pool::{BadPool, PoolItem, PoolRefusal, PoolWriter, one_pool_text, put_pool, read_pool};
 use jv_types::Seq;
 use std::alloc::Global;
 use std::test::Fail;
+use tests_text::{hex, three_words};
 
 /// Whether an item is shown as this text, spaces left out.
 fn is_shown(alloc: Global, item: &Option<&PoolItem>, wanted: &str) -> Result<bool, Fail> {

@@ -2,4 +2,10 @@
 #![tactic(auto)]
 
 #[cfg(test)]
-mod insns;
+mod decoding;
+#[cfg(test)]
+mod encoding;
+#[cfg(test)]
+mod operands;
+#[cfg(test)]
+mod pools;

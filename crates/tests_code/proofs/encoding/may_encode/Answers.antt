@@ -1,6 +1,6 @@
 -- Each turn of the loop is one instruction.
 use Rattle.tests_code.proofs.Encodings.{may_more}
-use Rattle.tests_code.proofs.insns.may_encode.Goals as goal
+use Rattle.tests_code.proofs.encoding.may_encode.Goals as goal
 
 pub loop-row-preserved : goal.loop-row-preserved
 loop-row-preserved c =

@@ -1,5 +1,3 @@
-//! Rows of text: bytes in hexadecimal, and what a row says is wanted.
-
 use std::alloc::{AllocError, Global};
 
 /// The value of a hexadecimal digit, and 0 for any other byte.
@@ -20,12 +18,4 @@ pub fn hex(alloc: Global, text: &str) -> Result<Vec<u8>, AllocError> {
         }
     }
     Ok(bytes)
-}
-
-/// The words of a line, of which those that it lacks are empty.
-pub fn three_words(line: &str) -> (&str, &str, &str) {
-    let mut words = line.split(' ');
-    let first = words.next().unwrap_or("");
-    let second = words.next().unwrap_or("");
-    (first, second, words.next().unwrap_or(""))
 }
