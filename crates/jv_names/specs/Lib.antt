@@ -1,2 +1,5 @@
 pub mod Spellings
 pub mod PoolNames
+pub mod Naming
+pub mod Finding
+pub mod Borrowed
