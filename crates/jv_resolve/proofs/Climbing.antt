@@ -5,11 +5,11 @@ use Rattle.jv_types.specs.declared.desc.MethodDesc.{MethodDesc}
 use Rattle.jv_types.specs.declared.ids.ClassId.{ClassId}
 use Rattle.jv_types.specs.declared.ids.MethodId.{MethodId}
 use Rattle.jv_types.specs.declared.shapes.Shape.{Shape}
-use Rattle.jv_world.specs.Worlds.{HasSuperclass, IsWorld}
+use Rattle.jv_world.specs.Worlds.{Climbs, HasSuperclass, IsWorld}
 use Rattle.jv_resolve.specs.declared.nearest.Wanted.{Wanted}
 use Rattle.jv_resolve.specs.declared.nearest.Wanted.TheVariants.{Declared, Inherited, Overriding, Special}
 use Rattle.jv_resolve.specs.Members.{DeclaresMethod}
-use Rattle.jv_resolve.specs.Inheriting.{Climbs, IsNearest, HasNone}
+use Rattle.jv_resolve.specs.Inheriting.{IsNearest, HasNone}
 use Rattle.jv_resolve.specs.Wanted.{IsWanted}
 use Rattle.jv_resolve.proofs.Hierarchy.{climbs_more, one_climb, climbs_past, super_here}
 use Rattle.jv_resolve.proofs.MembersLemmas.{declares_one}

@@ -6,8 +6,7 @@ use Rattle.std.proofs.lemmas.Bool.{ne_eqb}
 use Rattle.std.specs.List.{slice_get}
 use Rattle.std.proofs.lemmas.Option.{slice_get_within}
 use Rattle.jv_types.specs.declared.shapes.Shape.{Shape}
-use Rattle.jv_world.specs.Worlds.{IsNamed, HasSuperclass, HasSuper, Sub, same, link, ProperSub, IsWorld}
-use Rattle.jv_resolve.specs.Inheriting.{Climbs}
+use Rattle.jv_world.specs.Worlds.{Climbs, IsNamed, HasSuperclass, HasSuper, Sub, same, link, ProperSub, IsWorld}
 
 -- one class has one shape
 pub one_shape : (w : List Shape) (c : ℕ) (s t : Shape) → slice_get w c ≡ Some s → slice_get w c ≡ Some t → s ≡ t

@@ -4,6 +4,7 @@ pub mod PackagesLemmas
 pub mod Hierarchy
 pub mod OverridingLemmas
 pub mod MembersLemmas
+pub mod Causing
 pub mod Climbing
 pub mod SuperinterfaceLemmas
 pub mod Going

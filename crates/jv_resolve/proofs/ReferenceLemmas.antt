@@ -1,10 +1,10 @@
 -- What references name, and access by them.
-use Rattle.std.proofs.Common.{◌≡◌, ℕ, List, Option, Some, subst, sym, ◌∙◌, inl, inr}
+use Rattle.std.proofs.Common.{◌≡◌, ℕ, List, Option, Some, ◌⊎◌, subst, sym, ◌∙◌, inl, inr}
 use Rattle.std.specs.Prelude.{unwrap_or}
 use Rattle.jv_types.specs.declared.access.Access.{Access}
 use Rattle.jv_types.specs.declared.desc.RefType.{RefType}
 use Rattle.jv_types.specs.declared.shapes.Shape.{Shape}
-use Rattle.jv_world.specs.Worlds.{IsNamed, Sub, IsWorld, object_name}
+use Rattle.jv_world.specs.Worlds.{IsNamed, IsSubclass, IsWorld, object_name}
 use Rattle.jv_resolve.specs.Members.{IsInterfaceClass}
 use Rattle.jv_resolve.specs.References.{named_class, BeginsAt, NamesInterface}
 use Rattle.jv_resolve.specs.Access.{IsInLine, IsProtectedAccess, HasAccess}
@@ -24,13 +24,11 @@ names_one w type name d world e named p =
 pub begins_named : (w : List Shape) (type : RefType) (o : Option (List ℕ)) (c : ℕ) → o ≡ named_class type → BeginsAt w type c → IsNamed w c (unwrap_or o object_name)
 begins_named w type o c e b = subst (λ (x : Option (List ℕ)). IsNamed w c (unwrap_or x object_name)) (sym e) b
 
-pub in_line_one : (w : List Shape) (c d : ℕ) (name : List ℕ) → IsWorld w → IsNamed w d name → (Sub w c d → ⊥) → IsInLine w c name → Sub w d c
-in_line_one w c d name world named none p =
+pub in_line_one : (w : List Shape) (c d : ℕ) (name : List ℕ) → IsWorld w → IsNamed w d name → IsInLine w c name → IsSubclass w c d ⊎ IsSubclass w d c
+in_line_one w c d name world named p =
     let one : p.0 ≡ d = world.numbered.distinct p.0 d name p.1 named in
-    elim p.2 [
-      | inl s ↦ absurd (none (subst (Sub w c) one s))
-      | inr s ↦ subst (λ (x : ℕ). Sub w x c) one s
-    ]
+    let P : ℕ → Type 0 = λ x. IsSubclass w c x ⊎ IsSubclass w x c in
+    subst P one p.2
 
 protected_by : (w : List Shape) (from : ℕ) (L K : Type 0) (d : ℕ) (flags : Access) → (L → K) → IsProtectedAccess w from L d flags → IsProtectedAccess w from K d flags
 protected_by w from L K d flags f (inl p) = inl p

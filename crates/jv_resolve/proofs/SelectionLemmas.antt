@@ -5,10 +5,10 @@ use Rattle.jv_types.specs.declared.desc.MethodDesc.{MethodDesc}
 use Rattle.jv_types.specs.declared.ids.MethodId.{MethodId}
 use Rattle.jv_types.specs.declared.shapes.MethodShape.{MethodShape}
 use Rattle.jv_types.specs.declared.shapes.Shape.{Shape}
-use Rattle.jv_world.specs.Worlds.{IsWorld}
+use Rattle.jv_world.specs.Worlds.{Climbs, IsWorld}
 use Rattle.jv_resolve.specs.declared.nearest.Wanted.{Wanted}
 use Rattle.jv_resolve.specs.Members.{IsMethod, IsConcrete}
-use Rattle.jv_resolve.specs.Inheriting.{Climbs, IsNearest, HasNone, IsSingleDefault}
+use Rattle.jv_resolve.specs.Inheriting.{IsNearest, HasNone, IsSingleDefault}
 use Rattle.jv_resolve.specs.Wanted.{IsWanted}
 use Rattle.jv_resolve.specs.Selecting.{IsCandidate, IsOverrider, SelectsBy, SelectsVirtual, SelectsInterface}
 use Rattle.jv_resolve.proofs.AboveLemmas.{nearest_or_none}

@@ -5,27 +5,19 @@ use Rattle.jv_types.specs.declared.ids.MethodId.{MethodId}
 use Rattle.jv_types.specs.declared.references.MethodRef.{MethodRef}
 use Rattle.jv_types.specs.declared.shapes.MethodShape.{MethodShape}
 use Rattle.jv_types.specs.declared.shapes.Shape.{Shape}
-use Rattle.jv_world.specs.Worlds.{IsNamed, HasSuperclass, IsWorld}
-use Rattle.jv_resolve.specs.Inheriting.{Climbs, IsSingleDefault}
+use Rattle.jv_world.specs.Worlds.{Climbs, IsSubclass, IsNamed, HasSuperclass, IsWorld}
+use Rattle.jv_resolve.specs.Inheriting.{IsSingleDefault}
 use Rattle.jv_resolve.specs.Members.{IsConcrete, IsMethod, IsInterfaceClass}
 use Rattle.jv_resolve.specs.References.{named_class, BeginsAt}
 use Rattle.jv_resolve.specs.Resolving.{IsObjectMethod}
 use Rattle.jv_resolve.specs.Selecting.{IsSuperclass, IsSuperCall, SpecialStart, IsSpecialCandidate, FindsInInterface, SelectsInInterface, SelectsBy, SelectsFrom, SelectsSpecial}
-use Rattle.jv_resolve.proofs.Climbing.{IsClimbing, climb_end}
 use Rattle.jv_resolve.proofs.Hierarchy.{one_superclass}
 use Rattle.jv_resolve.proofs.MembersLemmas.{one_method, declares_one}
 
--- no links lead there
-pub not_climbed : (w : List Shape) (c d links at : ℕ) → IsClimbing w (λ (m : MethodId). m.class.number ≡ d) c links at → (at ≡ d → ⊥)
-    → ((e : ℕ) → HasSuperclass w at e → ⊥) → (n : ℕ) × Climbs w n c d → ⊥
-not_climbed w c d links at before differs top p =
-    let m : MethodId = record { class = record { number = d }; index = 0 } in
-    climb_end w (λ (m : MethodId). m.class.number ≡ d) c links at before (λ other e f. differs (sym e ∙ f)) top p.0 m p.1 refl
-
-pub superclass_from : (w : List Shape) (c e d : ℕ) → IsWorld w → HasSuperclass w c e → IsSuperclass w c d → (n : ℕ) × Climbs w n e d
+pub superclass_from : (w : List Shape) (c e d : ℕ) → IsWorld w → HasSuperclass w c e → IsSuperclass w c d → IsSubclass w e d
 superclass_from w c e d world step p = (p.0, subst (λ (x : ℕ). Climbs w p.0 x d) (one_superclass w c p.1.0 e world p.1.1 step) p.1.2)
 
-pub superclass_of : (w : List Shape) (c e d : ℕ) → HasSuperclass w c e → (n : ℕ) × Climbs w n e d → IsSuperclass w c d
+pub superclass_of : (w : List Shape) (c e d : ℕ) → HasSuperclass w c e → IsSubclass w e d → IsSuperclass w c d
 superclass_of w c e d step p = (p.0, (e, step, p.1))
 
 pub no_superclass : (w : List Shape) (c d : ℕ) → ((e : ℕ) → HasSuperclass w c e → ⊥) → IsSuperclass w c d → ⊥

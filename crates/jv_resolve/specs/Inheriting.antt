@@ -1,17 +1,12 @@
 -- Where methods are looked for above a class: along its superclasses, and among its superinterfaces.
-use Rattle.std.specs.Prelude.{◌≡◌, ℕ, zero, suc, ◌<◌, List}
+use Rattle.std.specs.Prelude.{◌≡◌, ℕ, ◌<◌, List}
 use Rattle.jv_types.specs.declared.desc.MethodDesc.{MethodDesc}
 use Rattle.jv_types.specs.declared.ids.MethodId.{MethodId}
 use Rattle.jv_types.specs.declared.shapes.Shape.{Shape}
-use Rattle.jv_world.specs.Worlds.{HasSuperclass, ProperSub}
+use Rattle.jv_world.specs.Worlds.{Climbs, ProperSub}
 use Rattle.jv_resolve.specs.Members.{IsInterfaceClass, IsInheritable, IsConcrete, DeclaresMethod}
 
 -- ---- along the superclasses
-
--- as many superclass links lead from the class c to the class d
-abbrev pub Climbs : List Shape → ℕ → ℕ → ℕ → Type 0
-Climbs w zero c d = c ≡ d
-Climbs w (suc n) c d = (e : ℕ) × HasSuperclass w c e × Climbs w n e d
 
 -- The method is such a one as P says, and no fewer superclass links lead from the class c to another class that
 -- has such a one.

@@ -6,9 +6,9 @@ use Rattle.jv_types.specs.declared.ids.MethodId.{MethodId}
 use Rattle.jv_types.specs.declared.references.MethodRef.{MethodRef}
 use Rattle.jv_types.specs.declared.shapes.MethodShape.{MethodShape}
 use Rattle.jv_types.specs.declared.shapes.Shape.{Shape}
-use Rattle.jv_world.specs.Worlds.{IsNamed, HasSuperclass}
+use Rattle.jv_world.specs.Worlds.{Climbs, IsNamed, HasSuperclass}
 use Rattle.jv_resolve.specs.Members.{IsPrivate, IsStatic, IsInterfaceClass, IsInheritable, IsConcrete, IsMethod, init_name, DeclaresMethod}
-use Rattle.jv_resolve.specs.Inheriting.{Climbs, IsNearest, HasNone, IsSingleDefault}
+use Rattle.jv_resolve.specs.Inheriting.{IsNearest, HasNone, IsSingleDefault}
 use Rattle.jv_resolve.specs.Overriding.{Overrides}
 use Rattle.jv_resolve.specs.References.{named_class, BeginsAt}
 use Rattle.jv_resolve.specs.Resolving.{IsObjectMethod}

@@ -1,7 +1,8 @@
-ghost use Rattle.std.specs.Prelude.{◌≡◌, ◌<◌, ◌↔◌, length, codes, IsTrue};
+ghost use Rattle.std.specs.Prelude.{◌≡◌, ◌<◌, ◌↔◌, ◌⊎◌, length, codes, IsTrue};
+ghost use Rattle.jv_world.specs.Worlds.{IsSubclass};
 ghost use Rattle.jv_resolve.specs.Members.{HasMethod, HasField};
 ghost use Rattle.jv_resolve.specs.References.{IsArray};
-ghost use Rattle.jv_resolve.specs.Access.{IsPublicClass, IsClassAccessible, IsInLine, NamesInLine, IsProtectedAccess, HasAccess, IsFieldAccessible, IsAccessible};
+ghost use Rattle.jv_resolve.specs.Access.{IsPublicClass, IsClassAccessible, IsInLine, NamesInLine, IsProtectedAccess, HasAccess, IsFieldAccessible, IsMethodAccessible};
 
 use crate::flags::{is_private, is_protected, is_public, is_static};
 use crate::members::{field_shape, method_shape};
@@ -20,7 +21,7 @@ fn is_public_class(world: &World, c: ClassId) -> bool
 }
 
 /// Whether the class `c` is accessible from the class `from` (JVMS 5.4.4): it is public, or the two are of one
-/// package.
+/// package. It takes no memory.
 pub fn is_class_accessible(world: &World, from: ClassId, c: ClassId) -> bool
     requires from_here { from.number < length world.now }
     requires c_here { c.number < length world.now }
@@ -29,14 +30,23 @@ pub fn is_class_accessible(world: &World, from: ClassId, c: ClassId) -> bool
     is_public_class(world, c) || are_in_one_package(world, from, c)
 }
 
-/// Whether a name is that of a class, or of a subclass or a superclass of it.
+/// Whether one of the two classes is the other or a subclass of it.
+fn are_in_line(world: &World, c: ClassId, d: ClassId) -> bool
+    requires c_here { c.number < length world.now }
+    requires d_here { d.number < length world.now }
+    ensures { IsTrue result ↔ (IsSubclass world.now c.number d.number ⊎ IsSubclass world.now d.number c.number) }
+{
+    world.is_subclass(c, d) || world.is_subclass(d, c)
+}
+
+/// Whether a name is that of a class, or of a subclass or a superclass of it, by superclass links.
 fn is_in_line(world: &World, c: ClassId, name: &Name) -> bool
     requires { c.number < length world.now }
     ensures { IsTrue result ↔ IsInLine world.now c.number name.now }
 {
     match world.class(name) {
         None => false,
-        Some(d) => world.sub(c, d) || world.sub(d, c),
+        Some(d) => are_in_line(world, c, d),
     }
 }
 
@@ -64,7 +74,7 @@ fn is_protected_access(
     ensures { IsTrue result ↔ IsProtectedAccess world.now from.number (IsTrue in_line) declarer.number flags }
 {
     are_in_one_package(world, from, declarer)
-        || (world.sub(from, declarer) && (is_static(flags) || in_line))
+        || (world.is_subclass(from, declarer) && (is_static(flags) || in_line))
 }
 
 /// Whether a member is accessible (JVMS 5.4.4).
@@ -85,11 +95,12 @@ fn has_access(world: &World, from: ClassId, in_line: bool, declarer: ClassId, fl
     is_private(flags) && from.number == declarer.number
 }
 
-/// Whether a field is accessible from a class by a reference.
+/// Whether the field `f`, to which the reference resolves, is accessible from the class `from` (JVMS 5.4.4).
+/// It takes no memory.
 pub fn is_field_accessible(world: &World, from: ClassId, r: &FieldRef, f: FieldId) -> bool
     requires from_here { from.number < length world.now }
     requires here { HasField world.now f }
-    ensures { IsTrue result ↔ IsFieldAccessible world.now from.number r.now f }
+    ensures exact { IsTrue result ↔ IsFieldAccessible world.now from.number r.now f }
 {
     let in_line = is_in_line(world, from, &r.class);
     has_access(world, from, in_line, f.class, field_shape(world, f).flags)
@@ -102,11 +113,12 @@ fn is_array_clone(r: &MethodRef) -> bool
     is_array(&r.class) && is_clone(&r.name)
 }
 
-/// Whether a method is accessible from a class by a reference.
-pub fn is_accessible(world: &World, from: ClassId, r: &MethodRef, m: MethodId) -> bool
+/// Whether the method `m`, to which the reference resolves, is accessible from the class `from` (JVMS 5.4.4).
+/// The method `clone` of an array counts as public (JVMS 10.7). It takes no memory.
+pub fn is_method_accessible(world: &World, from: ClassId, r: &MethodRef, m: MethodId) -> bool
     requires from_here { from.number < length world.now }
     requires here { HasMethod world.now m }
-    ensures { IsTrue result ↔ IsAccessible world.now from.number r.now m }
+    ensures exact { IsTrue result ↔ IsMethodAccessible world.now from.number r.now m }
 {
     if is_array_clone(r) {
         return true;

@@ -5,7 +5,7 @@ ghost use Rattle.jv_resolve.specs.DepthFirst.{IsFirst, Leads};
 ghost use Rattle.jv_resolve.specs.Resolving.{DeclaresFieldIn, ResolvesField};
 ghost use Rattle.jv_resolve.specs.Targets.{AreDeclaring};
 ghost use Rattle.jv_resolve.specs.Access.{IsFieldAccessible};
-ghost use Rattle.jv_resolve.specs.Refusals.{HasFieldCause};
+ghost use Rattle.jv_resolve.specs.Refusals.{HasFieldCause, IsFieldUnresolved};
 
 use crate::access::is_field_accessible;
 use crate::depth_first::first_target;
@@ -72,9 +72,24 @@ fn field_from(
     Ok(Some(f))
 }
 
-/// Resolves a reference to a field, as the class `from` has it (JVMS 5.4.3.2): in the named class, then in
-/// its superinterfaces recursively, then in its superclass recursively. Refused is first a reference that
-/// finds nothing, then one to a field that isn't accessible from the class `from` (JVMS 5.4.4).
+/// Resolves a reference to a field by the world and the reference alone (JVMS 5.4.3.2): in the named class,
+/// then in its superinterfaces recursively, then in its superclass recursively. `NotFound` is exactly where
+/// nothing is found, `WrongKind` and `NoAccess` never.
+pub fn resolve_field(alloc: Global, world: &World, r: &FieldRef) -> Result<FieldId, ResolveRefusal>
+    ensures resolved { IfOk result (ResolvesField world.now r.now) }
+    ensures refused { IfErr result (IsFieldUnresolved world.now r.now) }
+{
+    let Some(named) = world.class(&r.class) else {
+        return Err(ResolveRefusal::NotFound);
+    };
+    let Some(f) = field_from(alloc, world, named, &r.name, &r.desc)? else {
+        return Err(ResolveRefusal::NotFound);
+    };
+    Ok(f)
+}
+
+/// Resolves a reference to a field, as the class `from` has it: as `resolve_field` does, and then refused
+/// where the field isn't accessible from the class `from` (JVMS 5.4.4).
 pub fn field(
     alloc: Global,
     world: &World,
@@ -86,12 +101,7 @@ pub fn field(
     ensures accessible { IfOk result (IsFieldAccessible world.now from.number r.now) }
     ensures refused { IfErr result (HasFieldCause world.now from.number r.now) }
 {
-    let Some(named) = world.class(&r.class) else {
-        return Err(ResolveRefusal::NotFound);
-    };
-    let Some(f) = field_from(alloc, world, named, &r.name, &r.desc)? else {
-        return Err(ResolveRefusal::NotFound);
-    };
+    let f = resolve_field(alloc, world, r)?;
     if !is_field_accessible(world, from, r, f) {
         return Err(ResolveRefusal::NoAccess);
     }

@@ -4,10 +4,10 @@ ghost use Rattle.jv_world.specs.Worlds.{IsNamed, IsWorld};
 ghost use Rattle.jv_resolve.specs.Members.{DeclaresMethod, init_name};
 ghost use Rattle.jv_resolve.specs.References.{BeginsAt, NamesInterface};
 ghost use Rattle.jv_resolve.specs.Resolving.{DeclaresIn, IsInitKept, ResolvesInClass, ResolvesInInterface, ResolvesMethod, ResolvesInterfaceMethod};
-ghost use Rattle.jv_resolve.specs.Access.{IsAccessible};
-ghost use Rattle.jv_resolve.specs.Refusals.{HasMethodCause, HasInterfaceMethodCause};
+ghost use Rattle.jv_resolve.specs.Access.{IsMethodAccessible};
+ghost use Rattle.jv_resolve.specs.Refusals.{HasMethodCause, HasInterfaceMethodCause, IsMethodUnresolved, IsInterfaceMethodUnresolved};
 
-use crate::access::is_accessible;
+use crate::access::is_method_accessible;
 use crate::class_methods::{class_method, method_of_interface};
 use crate::members::declared_method;
 use crate::references::{is_array, is_init, names_interface, start_of};
@@ -65,21 +65,17 @@ fn found_in_interface(
     method_of_interface(alloc, world, start, &r.name, &r.desc)
 }
 
-/// Resolves a reference to a method of a class or an array, as the class `from` has it (JVMS 5.4.3.3): in
-/// the class and its superclasses, or else among its superinterfaces. For an array it looks in Object, where
-/// `clone` counts as public. A method `<init>` is found only where the named class declares it. Refused is
-/// first a reference that names an interface, then one that finds nothing, then one to a method that isn't
-/// accessible from the class `from` (JVMS 5.4.4).
-pub fn method(
+/// Resolves a reference to a method of a class or an array by the world and the reference alone (JVMS
+/// 5.4.3.3): in the class and its superclasses, or else among its superinterfaces. For an array it looks in
+/// Object. A method `<init>` is found only where the named class declares it. `WrongKind` is exactly where the
+/// reference names an interface, else `NotFound` exactly where nothing is found, `NoAccess` never.
+pub fn resolve_method(
     alloc: Global,
     world: &World,
-    from: ClassId,
     r: &MethodRef,
 ) -> Result<MethodId, ResolveRefusal>
-    requires { from.number < length world.now }
     ensures resolved { IfOk result (ResolvesMethod world.now r.now) }
-    ensures accessible { IfOk result (IsAccessible world.now from.number r.now) }
-    ensures refused { IfErr result (HasMethodCause world.now from.number r.now) }
+    ensures refused { IfErr result (IsMethodUnresolved world.now r.now) }
 {
     if names_interface(world, &r.class) {
         return Err(ResolveRefusal::WrongKind);
@@ -90,26 +86,40 @@ pub fn method(
     let Some(m) = found_in_class(alloc, world, start, r)? else {
         return Err(ResolveRefusal::NotFound);
     };
-    if !is_accessible(world, from, r, m) {
-        return Err(ResolveRefusal::NoAccess);
-    }
     Ok(m)
 }
 
-/// Resolves a reference to a method of an interface, as the class `from` has it (JVMS 5.4.3.4): in the
-/// interface, or else among Object's public instance methods, or else among its superinterfaces. Refused is
-/// first a reference that names no interface of the world, then one that finds nothing, then one to a method
-/// that isn't accessible from the class `from` (JVMS 5.4.4).
-pub fn interface_method(
+/// Resolves a reference to a method of a class or an array, as the class `from` has it: as `resolve_method`
+/// does, and then refused where the method isn't accessible from the class `from` (JVMS 5.4.4).
+pub fn method(
     alloc: Global,
     world: &World,
     from: ClassId,
     r: &MethodRef,
 ) -> Result<MethodId, ResolveRefusal>
     requires { from.number < length world.now }
+    ensures resolved { IfOk result (ResolvesMethod world.now r.now) }
+    ensures accessible { IfOk result (IsMethodAccessible world.now from.number r.now) }
+    ensures refused { IfErr result (HasMethodCause world.now from.number r.now) }
+{
+    let m = resolve_method(alloc, world, r)?;
+    if !is_method_accessible(world, from, r, m) {
+        return Err(ResolveRefusal::NoAccess);
+    }
+    Ok(m)
+}
+
+/// Resolves a reference to a method of an interface by the world and the reference alone (JVMS 5.4.3.4): in
+/// the interface, or else among Object's public instance methods, or else among its superinterfaces.
+/// `WrongKind` is exactly where the reference names no interface of the world, else `NotFound` exactly where
+/// nothing is found, `NoAccess` never.
+pub fn resolve_interface_method(
+    alloc: Global,
+    world: &World,
+    r: &MethodRef,
+) -> Result<MethodId, ResolveRefusal>
     ensures resolved { IfOk result (ResolvesInterfaceMethod world.now r.now) }
-    ensures accessible { IfOk result (IsAccessible world.now from.number r.now) }
-    ensures refused { IfErr result (HasInterfaceMethodCause world.now from.number r.now) }
+    ensures refused { IfErr result (IsInterfaceMethodUnresolved world.now r.now) }
 {
     if !names_interface(world, &r.class) {
         return Err(ResolveRefusal::WrongKind);
@@ -120,7 +130,25 @@ pub fn interface_method(
     let Some(m) = found_in_interface(alloc, world, start, r)? else {
         return Err(ResolveRefusal::NotFound);
     };
-    if !is_accessible(world, from, r, m) {
+    Ok(m)
+}
+
+/// Resolves a reference to a method of an interface, as the class `from` has it: as
+/// `resolve_interface_method` does, and then refused where the method isn't accessible from the class `from`
+/// (JVMS 5.4.4).
+pub fn interface_method(
+    alloc: Global,
+    world: &World,
+    from: ClassId,
+    r: &MethodRef,
+) -> Result<MethodId, ResolveRefusal>
+    requires { from.number < length world.now }
+    ensures resolved { IfOk result (ResolvesInterfaceMethod world.now r.now) }
+    ensures accessible { IfOk result (IsMethodAccessible world.now from.number r.now) }
+    ensures refused { IfErr result (HasInterfaceMethodCause world.now from.number r.now) }
+{
+    let m = resolve_interface_method(alloc, world, r)?;
+    if !is_method_accessible(world, from, r, m) {
         return Err(ResolveRefusal::NoAccess);
     }
     Ok(m)

@@ -17,11 +17,11 @@ fn package_of(name: &[u8]) -> &[u8]
     &name[..end]
 }
 
-/// Whether the two classes are of one package.
+/// Whether the two classes are of one package (JVMS 5.3). It takes no memory.
 pub fn are_in_one_package(world: &World, c: ClassId, d: ClassId) -> bool
     requires c_here { c.number < length world.now }
     requires d_here { d.number < length world.now }
-    ensures { IsTrue result ↔ AreInOnePackage world.now c.number d.number }
+    ensures exact { IsTrue result ↔ AreInOnePackage world.now c.number d.number }
 {
     package_of(world.shape(c).name.as_slice()) == package_of(world.shape(d).name.as_slice())
 }

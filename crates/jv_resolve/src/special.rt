@@ -1,6 +1,5 @@
 ghost use Rattle.std.specs.Prelude.{◌≡◌, ℕ, ◌<◌, ◌↔◌, length, IsTrue, IfOk, IfSome, IfNone};
 ghost use Rattle.jv_types.specs.declared.ids.MethodId.{MethodId};
-ghost use Rattle.jv_resolve.specs.Inheriting.{Climbs};
 ghost use Rattle.jv_resolve.specs.Members.{HasMethod};
 ghost use Rattle.jv_resolve.specs.Selecting.{IsSuperclass, IsSuperCall, SpecialStart, SelectsInInterface, SelectsFrom, SelectsSpecial};
 
@@ -15,25 +14,6 @@ use jv_types::{ClassId, MethodDesc, MethodId, MethodRef, Name};
 use jv_world::World;
 use std::alloc::{AllocError, Global};
 
-/// Whether superclass links lead from a class to another, or the two are one.
-fn climbs_to(world: &World, c: ClassId, d: ClassId) -> bool
-    requires { c.number < length world.now }
-    ensures { IsTrue result ↔ ((n : ℕ) × Climbs world.now n c.number d.number) }
-{
-    let mut class = c;
-    let count = world.shapes().len();
-    for links in 0..count {
-        if class.number == d.number {
-            return true;
-        }
-        match world.superclass(class) {
-            None => return false,
-            Some(parent) => class = parent,
-        }
-    }
-    unreachable!()
-}
-
 /// Whether a class is a superclass of another.
 fn is_superclass(world: &World, c: ClassId, d: ClassId) -> bool
     requires { c.number < length world.now }
@@ -41,7 +21,7 @@ fn is_superclass(world: &World, c: ClassId, d: ClassId) -> bool
 {
     match world.superclass(c) {
         None => false,
-        Some(parent) => climbs_to(world, parent, d),
+        Some(parent) => world.is_subclass(parent, d),
     }
 }
 

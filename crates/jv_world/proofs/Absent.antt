@@ -1,10 +1,10 @@
 -- The least name of a supertype that isn't there.
-use Rattle.std.proofs.Common.{◌≡◌, ℕ, ◌+◌, ◌<◌, ◌≤◌, ◌⊎◌, List, [], length, map, take, get_or, Contains, Option, Some, None, slice_get, refl, sym, ap, ◌∙◌, subst, inl, inr, ⊎_elim, arith}
+use Rattle.std.proofs.Common.{◌≡◌, ℕ, ◌+◌, ◌<◌, ◌≤◌, ◌⊎◌, List, length, map, take, get_or, Contains, Option, Some, None, slice_get, refl, sym, ap, ◌∙◌, subst, inl, inr, ⊎_elim, arith}
 use Rattle.std.proofs.lemmas.Bool.{cases_lt}
 use Rattle.std.proofs.lemmas.List.{take_all}
-use Rattle.std.proofs.lemmas.Option.{same_Some, none-some, slice_get-get_or, slice_get_within}
+use Rattle.std.proofs.lemmas.Option.{same_Some, none-some, slice_get-get_or}
 use Rattle.jv_types.specs.declared.shapes.Shape.{Shape}
-use Rattle.jv_world.specs.Worlds.{IsAbsent, IsNamed}
+use Rattle.jv_world.specs.Worlds.{IsAbsent}
 use Rattle.jv_world.specs.Building.{NamesSuper}
 use Rattle.jv_world.specs.Causes.{lesser_name, IsLeastOf, IsNowhere, TakesAbsent, TakesAbsentParent, IsAbsentBefore}
 use Rattle.jv_world.proofs.Leasts.{IsLeastOf-same, IsLeastOf-more}

@@ -4,7 +4,7 @@ use Rattle.std.proofs.lemmas.Bool.{false≢true}
 use Rattle.jv_types.specs.declared.desc.PrimType.{PrimType}
 use Rattle.jv_types.specs.declared.desc.RefType.{RefType, Class, PrimArray, Array, Array', Row_of-RefType, end_of-RefType, more_of-RefType}
 use Rattle.jv_types.specs.declared.shapes.Shape.{Shape}
-use Rattle.jv_world.specs.Instances.{IsInstance}
+use Rattle.jv_world.specs.Instances.{IsInstanceOf}
 
 -- the items of an array of references
 abbrev mutual
@@ -39,35 +39,35 @@ unfolding is_array
 PrimArray-no_array prim item e = false≢true (ap is_array e ∙ is_array-Array item)
 
 -- what an array of references is an instance of, among such arrays
-pub IsInstance-Array : (w : List Shape) (t item : RefType) → IsInstance w t (Array item) ≡ ((own : RefType) × (t ≡ Array own) × IsInstance w own item)
+pub IsInstanceOf-Array : (w : List Shape) (t item : RefType) → IsInstanceOf w t (Array item) ≡ ((own : RefType) × (t ≡ Array own) × IsInstanceOf w own item)
 unfolding Rattle.jv_types.specs.declared.desc.RefType.TheBlock.shape-the_row-RefType-0 Rattle.jv_types.specs.declared.desc.RefType.TheBlock.hidden-the_row-RefType-0 denote.Hole.Carrier.hidden
-IsInstance-Array w t item = refl
+IsInstanceOf-Array w t item = refl
 
 -- what is no array of references is an instance of none
-pub IsInstance-no_array : (w : List Shape) (t of item : RefType) → of ≡ Array item → ((own : RefType) → t ≡ Array own → ⊥)
-    → (IsTrue false → IsInstance w t of) × (IsInstance w t of → IsTrue false)
-IsInstance-no_array w t of item is none = (
+pub IsInstanceOf-no_array : (w : List Shape) (t of item : RefType) → of ≡ Array item → ((own : RefType) → t ≡ Array own → ⊥)
+    → (IsTrue false → IsInstanceOf w t of) × (IsInstanceOf w t of → IsTrue false)
+IsInstanceOf-no_array w t of item is none = (
   λ h. absurd (false≢true h),
   λ instance.
-      let P : RefType → Type 0 = λ o. IsInstance w t o in
+      let P : RefType → Type 0 = λ o. IsInstanceOf w t o in
       let Q : Type 0 → Type 0 = λ A. A in
-      let array = subst Q (IsInstance-Array w t item) (subst P is instance) in
+      let array = subst Q (IsInstanceOf-Array w t item) (subst P is instance) in
       absurd (none array.0 array.1),
 )
 
 -- arrays of references go by their items
-pub IsInstance-arrays : (w : List Shape) (t of s item p q : RefType) (r : Bool) → t ≡ Array s → of ≡ Array item → p ≡ s → q ≡ item
-    → (IsTrue r → IsInstance w p q) × (IsInstance w p q → IsTrue r) → (IsTrue r → IsInstance w t of) × (IsInstance w t of → IsTrue r)
-IsInstance-arrays w t of s item p q r is_t is_of is_p is_q says =
-    let P : RefType → Type 0 = λ o. IsInstance w t o in
+pub IsInstanceOf-arrays : (w : List Shape) (t of s item p q : RefType) (r : Bool) → t ≡ Array s → of ≡ Array item → p ≡ s → q ≡ item
+    → (IsTrue r → IsInstanceOf w p q) × (IsInstanceOf w p q → IsTrue r) → (IsTrue r → IsInstanceOf w t of) × (IsInstanceOf w t of → IsTrue r)
+IsInstanceOf-arrays w t of s item p q r is_t is_of is_p is_q says =
+    let P : RefType → Type 0 = λ o. IsInstanceOf w t o in
     let Q : Type 0 → Type 0 = λ A. A in
-    let R : RefType → Type 0 = λ x. IsInstance w x q in
-    let S : RefType → Type 0 = λ x. IsInstance w s x in (
-      λ yes. subst P (sym is_of) (subst Q (sym (IsInstance-Array w t item)) (s, is_t, subst S is_q (subst R is_p (says.0 yes)))),
+    let R : RefType → Type 0 = λ x. IsInstanceOf w x q in
+    let S : RefType → Type 0 = λ x. IsInstanceOf w s x in (
+      λ yes. subst P (sym is_of) (subst Q (sym (IsInstanceOf-Array w t item)) (s, is_t, subst S is_q (subst R is_p (says.0 yes)))),
       λ instance.
-          let array = subst Q (IsInstance-Array w t item) (subst P is_of instance) in
-          let T : RefType → Type 0 = λ x. IsInstance w x item in
-          let U : RefType → Type 0 = λ x. IsInstance w p x in
+          let array = subst Q (IsInstanceOf-Array w t item) (subst P is_of instance) in
+          let T : RefType → Type 0 = λ x. IsInstanceOf w x item in
+          let U : RefType → Type 0 = λ x. IsInstanceOf w p x in
           let own : array.0 ≡ p = sym (item_of-Array array.0) ∙ ap item_of (sym array.1 ∙ is_t) ∙ item_of-Array s ∙ sym is_p in
           says.1 (subst U (sym is_q) (subst T own array.2)),
     )

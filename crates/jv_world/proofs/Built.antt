@@ -1,13 +1,13 @@
 -- From what was searched to a world, or to the cause of a refusal.
-use Rattle.std.proofs.Common.{◌≡◌, ℕ, zero, suc, ◌<◌, ◌≤◌, List, [], ◌∷◌, length, map, get_or, Contains, Option, Some, None, slice_get, refl, sym, ap, ◌∙◌, subst, inl, inr, arith}
+use Rattle.std.proofs.Common.{◌≡◌, ℕ, zero, suc, ◌<◌, List, [], ◌∷◌, length, map, get_or, Option, Some, None, slice_get, refl, sym, ap, ◌∙◌, subst, arith}
 use Rattle.std.specs.declared.alloc.Global.{Global}
 use Rattle.std.specs.declared.vec.Vec.{Vec}
 use Rattle.std.proofs.lemmas.Option.{slice_get-get_or, same_Some}
 use Rattle.jv_types.specs.declared.ids.ClassId.{ClassId}
 use Rattle.jv_types.specs.declared.shapes.Shape.{Shape}
-use Rattle.jv_world.specs.Worlds.{AreNumbered, HasSuper, Sub, same, link, ProperSub, IsNamed, IsAbsent, IsCircular, HasWrongSuper, AreProperSupers, IsWorld}
+use Rattle.jv_world.specs.Worlds.{AreNumbered, HasSuper, Sub, same, link, ProperSub, IsAbsent, IsCircular, HasWrongSuper, AreProperSupers, IsWorld}
 use Rattle.jv_world.specs.Refusals.{IsLeastName}
-use Rattle.jv_world.specs.Building.{Has, AreLinks, IsLinked, Leads, straight, onward, AreInRange, AreLedFrom}
+use Rattle.jv_world.specs.Building.{AreLinks, IsLinked, IsLedTo, straight, onward, AreInRange, AreLedFrom}
 use Rattle.jv_world.specs.Causes.{IsLeastOf, IsAbsentBefore, IsOwnBefore, IsWrongBefore, AreRightBefore}
 use Rattle.jv_world.specs.Kept.{IsKept}
 use Rattle.jv_world.specs.Ranks.{count_at}
@@ -26,13 +26,13 @@ unlinked : (w : List Shape) (links : List (Vec ClassId Global)) → AreLinks w l
 unlinked w links are c d is = are.only c d is.0 is.1 is.2
 
 -- so is what they lead to
-Leads-proper : (w : List Shape) (links : List (Vec ClassId Global)) → AreLinks w links → (c d : ℕ) → Leads links c d → ProperSub w c d
-Leads-proper w links are c d (straight _ _ first) = (d, unlinked w links are c d first, same d d refl)
-Leads-proper w links are c d (onward _ m _ first rest) = (m, unlinked w links are c m first, Sub-proper w m d (Leads-proper w links are m d rest))
+IsLedTo-proper : (w : List Shape) (links : List (Vec ClassId Global)) → AreLinks w links → (c d : ℕ) → IsLedTo links c d → ProperSub w c d
+IsLedTo-proper w links are c d (straight _ _ first) = (d, unlinked w links are c d first, same d d refl)
+IsLedTo-proper w links are c d (onward _ m _ first rest) = (m, unlinked w links are c m first, Sub-proper w m d (IsLedTo-proper w links are m d rest))
 
-proper-Leads : (w : List Shape) (links : List (Vec ClassId Global)) → AreLinks w links → (c m d : ℕ) → HasSuper w c m → Sub w m d → Leads links c d
-proper-Leads w links are c m d first (same _ _ is) = let P : ℕ → Type 0 = λ n. Leads links c n in subst P is (straight c m (linked w links are c m first))
-proper-Leads w links are c m d first (link _ k _ next rest) = onward c m d (linked w links are c m first) (proper-Leads w links are m k d next rest)
+proper-IsLedTo : (w : List Shape) (links : List (Vec ClassId Global)) → AreLinks w links → (c m d : ℕ) → HasSuper w c m → Sub w m d → IsLedTo links c d
+proper-IsLedTo w links are c m d first (same _ _ is) = let P : ℕ → Type 0 = λ n. IsLedTo links c n in subst P is (straight c m (linked w links are c m first))
+proper-IsLedTo w links are c m d first (link _ k _ next rest) = onward c m d (linked w links are c m first) (proper-IsLedTo w links are m k d next rest)
 
 pub AreInRange-links : (w : List Shape) (links : List (Vec ClassId Global)) → AreLinks w links → AreInRange links
 AreInRange-links w links are = record { below = λ c d is. rw (are.count) (HasSuper-below w c d (unlinked w links are c d is)) }
@@ -43,8 +43,8 @@ pub AreProperSupers-led : (w : List Shape) (links rows : List (Vec ClassId Globa
 AreProperSupers-led w links rows n c row are led at =
     let own = led.rows_are c row at in
     record {
-      all = λ d proper. own.all d.number (proper-Leads w links are c proper.0 d.number proper.1 proper.2);
-      only = λ d has. Leads-proper w links are c d.number (own.only d.number has);
+      all = λ d proper. own.all d.number (proper-IsLedTo w links are c proper.0 d.number proper.1 proper.2);
+      only = λ d has. IsLedTo-proper w links are c d.number (own.only d.number has);
       rising = own.rising;
     }
 
@@ -62,12 +62,12 @@ own_circular : (w : List Shape) (links rows : List (Vec ClassId Global)) (n : �
 own_circular w links rows n are led all best least =
     IsLeastOf-same (IsOwnBefore w rows (length w)) (IsCircular w) best
     (λ name (h : IsOwnBefore w rows (length w) name).
-    (h.0, h.2, Leads-proper w links are h.0 h.0 ((led.rows_are h.0 h.3.0 h.3.1).only h.0 h.3.2)))
+    (h.0, h.2, IsLedTo-proper w links are h.0 h.0 ((led.rows_are h.0 h.3.0 h.3.1).only h.0 h.3.2)))
     (λ name (h : IsCircular w name).
     let proper = h.2 in
     let here : h.0 < length w = HasSuper-from w h.0 proper.0 proper.1 in
     let own = row_at rows h.0 (rw (led.count ∙ all) here) in
-    (h.0, here, h.1, (own.0, own.1, (led.rows_are h.0 own.0 own.1).all h.0 (proper-Leads w links are h.0 proper.0 h.0 proper.1 proper.2))))
+    (h.0, here, h.1, (own.0, own.1, (led.rows_are h.0 own.0 own.1).all h.0 (proper-IsLedTo w links are h.0 proper.0 h.0 proper.1 proper.2))))
     least
 
 pub circular : (w : List Shape) (links rows : List (Vec ClassId Global)) (n : ℕ) (name made : List ℕ) → AreLinks w links → AreLedFrom links n rows → n ≡ length w

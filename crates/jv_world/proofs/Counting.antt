@@ -1,5 +1,5 @@
 -- The numbers that classes and members have.
-use Rattle.std.proofs.Common.{◌<◌, ◌^◌, Bool, IsTrue, List, length, All, Contains, arith}
+use Rattle.std.proofs.Common.{◌<◌, ◌^◌, Bool, IsTrue, List, length, All}
 use Rattle.std.proofs.lemmas.List.Elements.{All-contains}
 use Rattle.jv_types.specs.declared.shapes.Shape.{Shape}
 use Rattle.jv_world.specs.Worlds.{AreNumbered, HaveDistinctNames}

@@ -11,4 +11,5 @@ mod NamesFound
 mod Searching
 mod Ranking
 mod Rising
+mod Subclasses
 mod Subtypes

@@ -1,9 +1,9 @@
 -- Marking classes: one, one after another, and none.
-use Rattle.std.proofs.Common.{◌≡◌, ℕ, zero, suc, ◌+◌, ◌<◌, ◌≤◌, ◌⊎◌, Bool, true, false, IsTrue, List, [], ◌∷◌, ◌++◌, append-nil, append_assoc, length, map, set, take, get_or, Contains, nat_eq, refl, sym, ap, ◌∙◌, subst, inl, inr, ⊎_elim, arith}
+use Rattle.std.proofs.Common.{◌≡◌, ℕ, ◌+◌, ◌<◌, ◌≤◌, ◌⊎◌, Bool, true, false, IsTrue, List, [], ◌∷◌, ◌++◌, append-nil, append_assoc, length, map, set, take, get_or, nat_eq, refl, sym, ap, ◌∙◌, subst, inl, inr, ⊎_elim, arith}
 use Rattle.std.specs.List.{IsDistinct, list_any}
 use Rattle.std.specs.Cmp.{nat_eq_equiv}
 use Rattle.std.proofs.lemmas.Bool.{cases_eq, cases_lt, false≢true, eqb-true}
-use Rattle.std.proofs.lemmas.List.{length-set, get_or-set_same, get_or-set_other, length_push, get_or_read, map_push, get_or_past, get_or_default, length-map}
+use Rattle.std.proofs.lemmas.List.{length-set, get_or-set_same, get_or-set_other, get_or_read, map_push, get_or_past, get_or_default, length-map}
 use Rattle.std.proofs.lemmas.List.Elements.{Contains-append_left, Contains-push}
 use Rattle.std.proofs.lemmas.Map.Keys.{IsDistinct-push}
 use Rattle.std.proofs.lemmas.Map.Steps.{length-le_from_distinct_below}
@@ -12,7 +12,7 @@ use Rattle.jv_types.specs.declared.ids.ClassId.{ClassId}
 use Rattle.jv_world.specs.Building.{Has, marked, IsMarking, AddsAll}
 use Rattle.jv_world.proofs.Choices.{by_bool}
 use Rattle.jv_world.proofs.Linking.{Has-push, Contains-take_cases, Contains-take_kept, Contains-take_new}
-use Rattle.jv_world.proofs.Ranking.{Contains-class, Contains-numbers}
+use Rattle.jv_world.proofs.Ranking.{Contains-class}
 
 -- what is marked is a class of the list
 pub marked_below : (marks : List Bool) (n : ℕ) → IsTrue (marked marks n) → n < length marks

@@ -1,11 +1,11 @@
 -- The search for what links lead to.
-use Rattle.std.proofs.Common.{◌≡◌, ◌≢◌, ℕ, zero, suc, ◌+◌, ◌-◌, ◌<◌, ◌≤◌, ◌⊎◌, Bool, true, false, IsTrue, List, [], ◌∷◌, ◌++◌, length, map, set, get_or, Contains, Some, nat_eq, slice_get, IsPermutation, IsSorted, refl, sym, ap, ◌∙◌, subst, inl, inr, ⊎_elim, arith}
+use Rattle.std.proofs.Common.{◌≡◌, ◌≢◌, ℕ, zero, suc, ◌+◌, ◌<◌, ◌≤◌, Bool, false, IsTrue, List, [], ◌∷◌, ◌++◌, length, map, set, get_or, Contains, Some, nat_eq, slice_get, IsPermutation, IsSorted, refl, sym, ap, ◌∙◌, subst, ⊎_elim, arith}
 use Rattle.std.specs.List.{IsDistinct}
 use Rattle.std.specs.List.Sorted.{IsStrictlyIncreasing}
 use Rattle.std.specs.Ordering.{nat_cmp}
 use Rattle.std.specs.declared.alloc.Global.{Global}
 use Rattle.std.specs.declared.vec.Vec.{Vec}
-use Rattle.std.proofs.lemmas.Bool.{cases_eq, cases_lt, false≢true, eq-eqb}
+use Rattle.std.proofs.lemmas.Bool.{cases_lt, false≢true, eq-eqb}
 use Rattle.std.proofs.lemmas.List.{get_or-set_same, get_or-set_other, get_or-map, length-map, length_push}
 use Rattle.std.proofs.lemmas.List.Elements.{Contains-append_left, Contains-get_or}
 use Rattle.std.proofs.lemmas.Option.{none-some, same_Some, slice_get-get_or}
@@ -13,8 +13,8 @@ use Rattle.std.proofs.lemmas.List.Sorted.{Contains-permutation, IsPermutation-sy
 use Rattle.std.proofs.lemmas.Map.Keys.{IsDistinct-from_apart, IsDistinct-IsPermutation, apart_from_distinct, ge_from_not_lt}
 use Rattle.std.specs.Cmp.{nat_eq_equiv}
 use Rattle.jv_types.specs.declared.ids.ClassId.{ClassId}
-use Rattle.jv_world.specs.Building.{Has, IsLinked, Leads, straight, onward, AreInRange, IsClear, IsFound, marked, IsMarking, AddsAll, AreLed, AreLedFrom}
-use Rattle.jv_world.proofs.Marking.{found_few, marked_below, AddsAll-same}
+use Rattle.jv_world.specs.Building.{Has, IsLinked, IsLedTo, straight, onward, IsClear, IsFound, marked, IsMarking, AddsAll, AreLed, AreLedFrom}
+use Rattle.jv_world.proofs.Marking.{marked_below, AddsAll-same}
 use Rattle.jv_world.proofs.Linking.{slice_get-push}
 
 -- the links of a class, by its row
@@ -29,16 +29,16 @@ AddsAll-links links c row a af b bf at adds =
     (λ n linked. let P : Vec ClassId Global → Type 0 = λ v. Has v.items n in subst P (same_Some linked.0 row (sym linked.1 ∙ at)) linked.2) adds
 
 -- one link more at the end
-Leads-more : (links : List (Vec ClassId Global)) (c m d : ℕ) → Leads links c m → IsLinked links m d → Leads links c d
-Leads-more links c m d (straight _ _ first) last = onward c m d first (straight m d last)
-Leads-more links c m d (onward _ k _ first rest) last = onward c k d first (Leads-more links k m d rest last)
+IsLedTo-more : (links : List (Vec ClassId Global)) (c m d : ℕ) → IsLedTo links c m → IsLinked links m d → IsLedTo links c d
+IsLedTo-more links c m d (straight _ _ first) last = onward c m d first (straight m d last)
+IsLedTo-more links c m d (onward _ k _ first rest) last = onward c k d first (IsLedTo-more links k m d rest last)
 
 -- the classes found lead from c, and those before the place have their links followed
 pub record IsSearch (links : List (Vec ClassId Global)) (c : ℕ) (marks : List Bool) (found : List ClassId) (i : ℕ) : Type 0 where
   pub marking : IsMarking marks found
   pub count : length marks ≡ length links
   pub roots : (d : ℕ) → IsLinked links c d → Has found d
-  pub inside : (d : ℕ) → Has found d → Leads links c d
+  pub inside : (d : ℕ) → Has found d → IsLedTo links c d
   pub followed : (k : ℕ) (e : ClassId) → k < i → slice_get found k ≡ Some e → (d : ℕ) → IsLinked links e.number d → Has found d
 
 pub IsSearch-start : (links : List (Vec ClassId Global)) (c : ℕ) (marks : List Bool) (found : List ClassId) (new_marks : List Bool) (new_found : List ClassId)
@@ -70,7 +70,7 @@ IsSearch-step links c marks found new_marks new_found i next below is adds done 
   inside = λ d h.
       ⊎_elim
       (λ old. done.inside d old)
-      (λ new. Leads-more links c next.number d (done.inside next.number here) new)
+      (λ new. IsLedTo-more links c next.number d (done.inside next.number here) new)
       (adds.only d h);
   followed = λ k e before at d linked.
       let P : List ClassId → Type 0 = λ l. slice_get l k ≡ Some e in
@@ -98,7 +98,7 @@ next_found links c marks found i past done m d has linked =
     done.followed has.0 (record { number = m }) (omega (arith, has.1, past)) (slice_get-get_or found has.0 (record { number = m }) has.1 ∙ ap Some has.2) d linked
 
 led : (links : List (Vec ClassId Global)) (c : ℕ) (marks : List Bool) (found : List ClassId) (i : ℕ) → length found ≤ i → IsSearch links c marks found i
-    → (m d : ℕ) → Has found m → Leads links m d → Has found d
+    → (m d : ℕ) → Has found m → IsLedTo links m d → Has found d
 led links c marks found i past done m d has (straight _ _ first) = next_found links c marks found i past done m d has first
 led links c marks found i past done m d has (onward _ k _ first rest) =
     led links c marks found i past done k d (next_found links c marks found i past done m k has first) rest
@@ -111,7 +111,7 @@ IsFound-search links c marks found i past done = record {
   only = done.inside;
 }
   where
-    from : (d : ℕ) → Leads links c d → Has found d
+    from : (d : ℕ) → IsLedTo links c d → Has found d
     from d (straight _ _ first) = done.roots d first
     from d (onward _ k _ first rest) = led links c marks found i past done k d (done.roots k first) rest
 

@@ -1,12 +1,12 @@
 -- Subtypes and proper subtypes.
-use Rattle.std.proofs.Common.{◌≡◌, ℕ, ◌⊎◌, ◌<◌, ◌≤◌, List, length, Bool, true, false, IsTrue, Option, Some, None, IfNone, nat_eq, Contains, get_or, slice_get, refl, sym, ap, ◌∙◌, subst, inl, inr, ⊎_elim, arith}
+use Rattle.std.proofs.Common.{◌≡◌, ℕ, ◌⊎◌, ◌<◌, List, length, Bool, false, IsTrue, Option, Some, None, IfNone, nat_eq, slice_get, refl, sym, ap, ◌∙◌, subst, inl, inr, ⊎_elim}
 use Rattle.std.proofs.lemmas.Option.{slice_get_within, same_Some}
 use Rattle.std.proofs.lemmas.Bool.{false≢true}
 use Rattle.std.specs.Cmp.Lexicographic.{pointwise, bytes_decides}
 use Rattle.jv_types.specs.declared.ids.ClassId.{ClassId}
 use Rattle.jv_types.specs.declared.shapes.Shape.{Shape}
-use Rattle.jv_world.specs.Worlds.{HasSuper, Sub, same, link, ProperSub, IsNamed, HasSuperclass, AreNumbered}
-use Rattle.jv_world.specs.Instances.{IsSubNamed}
+use Rattle.jv_world.specs.Worlds.{IsInterface, HasSuper, Sub, same, link, ProperSub, IsNamed, HasSuperclass, AreNumbered}
+use Rattle.jv_world.specs.Instances.{IsInterfaceNamed, IsSubNamed}
 
 -- a subtype is the class itself or a proper one
 pub Sub-cases : (w : List Shape) (b d : ℕ) → Sub w b d → (b ≡ d) ⊎ ProperSub w b d
@@ -70,3 +70,19 @@ IsSubNamed-no_class w name of other none = (λ h. absurd (false≢true h), λ su
 -- names that compare as different
 pub other_name : (name of : List ℕ) (t : Bool) → t ≡ pointwise nat_eq name of → t ≡ false → name ≡ of → ⊥
 other_name name of t is differs same_names = false≢true (sym differs ∙ is ∙ (bytes_decides name of).1 same_names)
+
+-- the class of the name is an interface, or there is none
+pub IsInterfaceNamed-by : (w : List Shape) (c : ℕ) (shape : Shape) (name : List ℕ) (t : Bool) → AreNumbered w → IsNamed w c name → slice_get w c ≡ Some shape
+    → (IsTrue t → IsInterface shape) × (IsInterface shape → IsTrue t) → (IsTrue t → IsInterfaceNamed w name) × (IsInterfaceNamed w name → IsTrue t)
+IsInterfaceNamed-by w c shape name t numbered named at says =
+    let own : shape ≡ named.0 = same_Some shape named.0 (sym at ∙ named.1) in (
+      λ yes. (c, shape, at, ap (λ (s : Shape). s.name) own ∙ named.2, says.0 yes),
+      λ interface.
+          let here : interface.0 ≡ c = numbered.distinct interface.0 c name (interface.1, interface.2, interface.3) named in
+          let other : interface.1 ≡ shape = same_Some interface.1 shape (sym interface.2 ∙ ap (λ (x : ℕ). slice_get w x) here ∙ at) in
+          says.1 (subst (λ (s : Shape). IsInterface s) other interface.4),
+    )
+
+pub IsInterfaceNamed-none : (w : List Shape) (name : List ℕ) → ((c : ℕ) → IsNamed w c name → ⊥)
+    → (IsTrue false → IsInterfaceNamed w name) × (IsInterfaceNamed w name → IsTrue false)
+IsInterfaceNamed-none w name none = (λ h. absurd (false≢true h), λ interface. absurd (none interface.0 (interface.1, interface.2, interface.3)))

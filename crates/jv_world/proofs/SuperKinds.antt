@@ -1,18 +1,17 @@
 -- The kinds of the supertypes that a class names.
-use Rattle.std.proofs.Common.{◌≡◌, ◌≢◌, ℕ, ◌+◌, ◌<◌, ◌≤◌, ◌⊎◌, Bool, true, false, not, IsTrue, List, [], length, map, take, get_or, Contains, Option, Some, None, IfNone, MatchOption, Bor, option_copied, slice_get, refl, sym, ap, ◌∙◌, subst, inl, inr, ⊎_elim, arith}
+use Rattle.std.proofs.Common.{◌≡◌, ℕ, ◌+◌, ◌<◌, ◌≤◌, Bool, true, false, not, IsTrue, List, length, map, take, get_or, Contains, Option, Some, None, IfNone, MatchOption, Bor, option_copied, slice_get, refl, sym, ap, ◌∙◌, subst, inl, inr, ⊎_elim, arith}
 use Rattle.std.proofs.lemmas.Bool.{false≢true, cases_lt}
 use Rattle.std.proofs.lemmas.List.{take_all}
-use Rattle.std.proofs.lemmas.List.Elements.{Contains-get_or}
-use Rattle.std.proofs.lemmas.Option.{same_Some, none-some, slice_get-get_or}
+use Rattle.std.proofs.lemmas.Option.{same_Some, slice_get-get_or}
 use Rattle.std.specs.declared.alloc.Global.{Global}
 use Rattle.std.specs.declared.vec.Vec.{Vec}
 use Rattle.jv_types.specs.declared.ids.ClassId.{ClassId}
 use Rattle.jv_types.specs.declared.shapes.Shape.{Shape}
-use Rattle.jv_world.specs.Worlds.{object_name, AreNumbered, IsNamed, IsInterface, IsFinal, HasRightSupers, HasWrongSuper}
+use Rattle.jv_world.specs.Worlds.{object_name, AreNumbered, IsNamed, IsInterface, IsFinal, HasRightSupers}
 use Rattle.jv_world.specs.Building.{Has}
 use Rattle.jv_world.specs.Causes.{lesser_name, IsLeastOf, IsWrongBefore, AreRightBefore, IsOwnBefore, HasItself, HasRightSuperclass, AreInterfaces, ExtendsObject}
 use Rattle.jv_world.proofs.Leasts.{IsLeastOf-same, IsLeastOf-more}
-use Rattle.jv_world.proofs.Linking.{Contains-take_cases, Contains-take_kept, Contains-take_new}
+use Rattle.jv_world.proofs.Linking.{Contains-take_cases}
 use Rattle.jv_world.proofs.NamesFound.{IsNamed-at, at_IsNamed, same_name}
 use Rattle.jv_world.proofs.Subtypes.{IsNamed-below}
 

@@ -7,7 +7,7 @@ use Rattle.std.specs.declared.alloc.Global.{Global}
 use Rattle.std.specs.declared.vec.Vec.{Vec}
 use Rattle.jv_types.specs.declared.ids.ClassId.{ClassId}
 use Rattle.jv_types.specs.declared.shapes.Shape.{Shape}
-use Rattle.jv_world.specs.Worlds.{HasSuper, ProperSub}
+use Rattle.jv_world.specs.Worlds.{HasSuper}
 
 -- a list of classes has the class of this number
 abbrev pub Has : List ClassId → ℕ → Type 0
@@ -63,9 +63,9 @@ abbrev pub IsLinked : List (Vec ClassId Global) → ℕ → ℕ → Type 0
 IsLinked links c d = (row : Vec ClassId Global) × (slice_get links c ≡ Some row) × Has row.items d
 
 -- one link or more lead from one class to another
-pub data Leads (links : List (Vec ClassId Global)) : ℕ → ℕ → Type 0 where
-  straight : (c d : ℕ) → IsLinked links c d → Leads links c d
-  onward : (c m d : ℕ) → IsLinked links c m → Leads links m d → Leads links c d
+pub data IsLedTo (links : List (Vec ClassId Global)) : ℕ → ℕ → Type 0 where
+  straight : (c d : ℕ) → IsLinked links c d → IsLedTo links c d
+  onward : (c m d : ℕ) → IsLinked links c m → IsLedTo links m d → IsLedTo links c d
 
 -- each link leads to a class of the list
 pub record AreInRange (links : List (Vec ClassId Global)) : Type 0 where
@@ -73,8 +73,8 @@ pub record AreInRange (links : List (Vec ClassId Global)) : Type 0 where
 
 -- the classes that links lead to, by rising numbers
 pub record AreLed (links : List (Vec ClassId Global)) (c : ℕ) (ds : List ClassId) : Type 0 where
-  pub all : (d : ℕ) → Leads links c d → Has ds d
-  pub only : (d : ℕ) → Has ds d → Leads links c d
+  pub all : (d : ℕ) → IsLedTo links c d → Has ds d
+  pub only : (d : ℕ) → Has ds d → IsLedTo links c d
   pub rising : IsStrictlyIncreasing (map (λ d. d.number) ds)
 
 -- no class is marked or found
@@ -87,8 +87,8 @@ pub record IsClear (links : List (Vec ClassId Global)) (marks : List Bool) (foun
 pub record IsFound (links : List (Vec ClassId Global)) (c : ℕ) (marks : List Bool) (found : List ClassId) : Type 0 where
   pub marking : IsMarking marks found
   pub count : length marks ≡ length links
-  pub all : (d : ℕ) → Leads links c d → Has found d
-  pub only : (d : ℕ) → Has found d → Leads links c d
+  pub all : (d : ℕ) → IsLedTo links c d → Has found d
+  pub only : (d : ℕ) → Has found d → IsLedTo links c d
 
 -- what each of the first classes leads to
 pub record AreLedFrom (links : List (Vec ClassId Global)) (n : ℕ) (rows : List (Vec ClassId Global)) : Type 0 where

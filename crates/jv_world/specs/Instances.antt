@@ -1,13 +1,17 @@
 -- Which reference types are instances of which (JVMS 4.10.1.2, JLS 4.10.3).
-use Rattle.std.specs.Prelude.{◌≡◌, ℕ, ◌⊎◌, List, codes}
+use Rattle.std.specs.Prelude.{◌≡◌, ℕ, ◌⊎◌, List, Some, slice_get, codes}
 use Rattle.jv_types.specs.declared.desc.RefType.{RefType, Class, PrimArray, Array, Array', Row_of-RefType, end_of-RefType, more_of-RefType}
 use Rattle.jv_types.specs.declared.shapes.Shape.{Shape}
-use Rattle.jv_world.specs.Worlds.{object_name, IsNamed, Sub}
+use Rattle.jv_world.specs.Worlds.{object_name, IsInterface, IsNamed, Sub}
 
 -- the class of one name is a subtype of the class of the other: the names are the same, or both classes
 -- are there and links lead from one to the other
 abbrev pub IsSubNamed : List Shape → List ℕ → List ℕ → Type 0
 IsSubNamed w name of = (name ≡ of) ⊎ ((c : ℕ) × (d : ℕ) × IsNamed w c name × IsNamed w d of × Sub w c d)
+
+-- the name is that of an interface of the world
+abbrev pub IsInterfaceNamed : List Shape → List ℕ → Type 0
+IsInterfaceNamed w name = (c : ℕ) × (shape : Shape) × (slice_get w c ≡ Some shape) × (shape.name ≡ name) × IsInterface shape
 
 -- the three classes and interfaces that every array is an instance of
 abbrev pub IsArraySuper : List ℕ → Type 0
@@ -22,11 +26,11 @@ IsInstanceOfClass w (Array' shape items) of = IsArraySuper of
 -- An object of the first type is an instance of the second. An array of primitives is one of the same array
 -- alone among arrays; an array of references is one of each array of what its items are instances of.
 abbrev mutual
-  pub IsInstance : List Shape → RefType → RefType → Type 0
-  IsInstance w type (Class of) = IsInstanceOfClass w type of
-  IsInstance w type (PrimArray prim) = type ≡ PrimArray prim
-  IsInstance w type (Array' shape items) = IsArrayOf w type items
+  pub IsInstanceOf : List Shape → RefType → RefType → Type 0
+  IsInstanceOf w type (Class of) = IsInstanceOfClass w type of
+  IsInstanceOf w type (PrimArray prim) = type ≡ PrimArray prim
+  IsInstanceOf w type (Array' shape items) = IsArrayOf w type items
 
   pub IsArrayOf : List Shape → RefType → {m : _} → Row_of-RefType m → Type 0
   IsArrayOf w type end_of-RefType = ⊥
-  IsArrayOf w type (more_of-RefType item rest) = (own : RefType) × (type ≡ Array own) × IsInstance w own item
+  IsArrayOf w type (more_of-RefType item rest) = (own : RefType) × (type ≡ Array own) × IsInstanceOf w own item

@@ -1,5 +1,5 @@
 -- Why a list of shapes is no world.
-use Rattle.std.specs.Prelude.{◌≡◌, ℕ, ◌≢◌, List}
+use Rattle.std.specs.Prelude.{ℕ, ◌≢◌, List}
 use Rattle.std.specs.Ordering.{nat_cmp}
 use Rattle.std.specs.Cmp.Lexicographic.{slice_cmp}
 use Rattle.std.specs.declared.cmp.Ordering.TheVariants.{Greater}

@@ -1,6 +1,6 @@
 -- A world of classes and interfaces: a list of shapes. A class is spoken of by its number, which is its
 -- place in the list (JVMS 4.1, 5.3.5).
-use Rattle.std.specs.Prelude.{◌≡◌, ℕ, ◌<◌, ◌^◌, ◌⊎◌, List, [], ◌∷◌, Some, MatchOption, length, map, bit_and, codes, Contains}
+use Rattle.std.specs.Prelude.{◌≡◌, ℕ, zero, suc, ◌<◌, ◌^◌, ◌⊎◌, List, [], ◌∷◌, Some, MatchOption, length, map, bit_and, codes, Contains}
 use Rattle.std.specs.List.{slice_get}
 use Rattle.std.specs.List.Sorted.{IsStrictlyIncreasing}
 use Rattle.jv_types.specs.declared.ids.ClassId.{ClassId}
@@ -43,6 +43,15 @@ pub data Sub (w : List Shape) : ℕ → ℕ → Type 0 where
 -- d is a proper supertype of b: it is reached by one link or more
 abbrev pub ProperSub : List Shape → ℕ → ℕ → Type 0
 ProperSub w b d = (c : ℕ) × HasSuper w b c × Sub w c d
+
+-- as many superclass links lead from the class c to the class d
+abbrev pub Climbs : List Shape → ℕ → ℕ → ℕ → Type 0
+Climbs w zero c d = c ≡ d
+Climbs w (suc n) c d = (e : ℕ) × HasSuperclass w c e × Climbs w n e d
+
+-- the class c is d or a subclass of it: superclass links alone lead from c to d
+abbrev pub IsSubclass : List Shape → ℕ → ℕ → Type 0
+IsSubclass w c d = (links : ℕ) × Climbs w links c d
 
 -- the superclasses of c, the direct one first and the one without a superclass last
 abbrev pub AreSuperclasses : List Shape → ℕ → List ℕ → Type 0

@@ -69,14 +69,14 @@ pub fn least_absent<'a>(shapes: &'a [Shape], names: &Names) -> Option<&'a Name>
 }
 
 /// Whether a class is an interface (JVMS table 4.1-B).
-fn is_interface(shape: &Shape) -> bool
+pub fn is_interface(shape: &Shape) -> bool
     ensures { IsTrue result ↔ IsInterface shape.now }
 {
     shape.flags.contains(Access::INTERFACE)
 }
 
 /// Whether a class is final (JVMS table 4.1-B).
-fn is_final(shape: &Shape) -> bool
+pub fn is_final(shape: &Shape) -> bool
     ensures { IsTrue result ↔ IsFinal shape.now }
 {
     shape.flags.contains(Access::FINAL)

@@ -1,11 +1,12 @@
 ghost use Rattle.std.specs.Prelude.{◌↔◌, IsTrue};
-ghost use Rattle.jv_world.specs.Instances.{IsInstance, IsInstanceOfClass, IsArraySuper, IsSubNamed};
+ghost use Rattle.jv_world.specs.Instances.{IsArraySuper, IsInstanceOf, IsInstanceOfClass, IsInterfaceNamed, IsSubNamed};
 
+use crate::causes::is_interface;
 use crate::world::World;
 use jv_types::{Name, RefType};
 
-/// Whether every array is an instance of the class or interface of this name (JLS 4.10.3).
-fn is_array_super(name: &Name) -> bool
+/// Whether every array is an instance of the class or interface of this name (JLS 4.10.3). It takes no memory.
+pub fn is_array_super(name: &Name) -> bool
     ensures { IsTrue result ↔ IsArraySuper name.now }
 {
     let name = name.as_slice();
@@ -16,8 +17,8 @@ fn is_array_super(name: &Name) -> bool
 
 impl World {
     /// Whether the class of one name is a subtype of the class of the other. Each name is one of itself,
-    /// also where the world has no class of that name.
-    fn is_sub_named(&self, name: &Name, of: &Name) -> bool
+    /// also where the world has no class of that name. It takes no memory.
+    pub fn is_sub_named(&self, name: &Name, of: &Name) -> bool
         ensures { IsTrue result ↔ IsSubNamed self.now name.now of.now }
     {
         if name == of {
@@ -28,6 +29,16 @@ impl World {
             (Some(_), None) => false,
             (None, Some(_)) => false,
             (None, None) => false,
+        }
+    }
+
+    /// Whether the name is that of an interface of the world. It takes no memory.
+    pub fn is_interface_named(&self, name: &Name) -> bool
+        ensures { IsTrue result ↔ IsInterfaceNamed self.now name.now }
+    {
+        match self.class(name) {
+            None => false,
+            Some(class) => is_interface(self.shape(class)),
         }
     }
 
@@ -45,7 +56,7 @@ impl World {
     /// Whether each object of the type `t` is an instance of `of` (JVMS 4.10.1.2, JLS 4.10.3). A class is
     /// a subtype of itself, also where the world has none of its name.
     pub fn is_instance(&self, t: &RefType, of: &RefType) -> bool
-        ensures { IsTrue result ↔ IsInstance self.now t.now of.now }
+        ensures { IsTrue result ↔ IsInstanceOf self.now t.now of.now }
     {
         match (t, of) {
             (_, RefType::Class(of)) => self.is_instance_of_class(t, of),

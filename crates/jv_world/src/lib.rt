@@ -11,6 +11,8 @@ mod numbered;
 mod refusal;
 mod world;
 
+pub use causes::{is_final, is_interface};
+pub use instance::is_array_super;
 pub use numbered::are_numbered;
 pub use refusal::HierRefusal;
 pub use world::World;

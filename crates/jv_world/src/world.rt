@@ -1,5 +1,5 @@
 ghost use Rattle.std.specs.Prelude.{◌≡◌, ℕ, ◌<◌, ◌↔◌, List, Some, length, map, slice_get, IsTrue, IfOk, IfErr, IfSome, IfNone};
-ghost use Rattle.jv_world.specs.Worlds.{IsNamed, HasSuperclass, Sub, AreSuperclasses, AreNumbered, AreProperSupers, IsWorld};
+ghost use Rattle.jv_world.specs.Worlds.{IsNamed, HasSuperclass, IsSubclass, Sub, AreSuperclasses, AreNumbered, AreProperSupers, IsWorld};
 ghost use Rattle.jv_world.specs.Refusals.{HasCause};
 
 use crate::causes::{least_absent, least_circular, least_wrong};
@@ -76,6 +76,14 @@ impl World {
         self.shapes.as_slice()
     }
 
+    /// The shapes, which the world gives up. It takes no memory.
+    pub fn into_shapes(self) -> Vec<Shape>
+        ensures shapes { result.items ≡ self }
+        ensures world { IsWorld self }
+    {
+        self.shapes
+    }
+
     /// The class or interface of this name, if the world has one.
     pub fn class(&self, name: &Name) -> Option<ClassId>
         ensures found { IfSome result (λ c. IsNamed self.now c.number name.now) }
@@ -124,6 +132,27 @@ impl World {
             None => None,
             Some(parent) => self.class(parent),
         }
+    }
+
+    /// Whether `c` is `d` or a subclass of it: superclass links alone lead from the one to the other. Of
+    /// interfaces only Object is a superclass (JVMS 4.1).
+    pub fn is_subclass(&self, c: ClassId, d: ClassId) -> bool
+        requires { c.number < length self.now }
+        ensures exact { IsTrue result ↔ IsSubclass self.now c.number d.number }
+        ensures world { IsWorld self.now }
+    {
+        let mut class = c;
+        let count = self.shapes().len();
+        for links in 0..count {
+            if class.number == d.number {
+                return true;
+            }
+            match self.superclass(class) {
+                None => return false,
+                Some(parent) => class = parent,
+            }
+        }
+        unreachable!()
     }
 
     /// The superclasses of a class, the direct one first and Object last. Only memory can be wanting.

@@ -9,6 +9,6 @@ returns-in-None c = never (IsSuperclass c.args.world.now c.args.c.number c.args.
 
 pub returns-in-Some : goal.returns-in-Some
 returns-in-Some c = (
-  λ t. superclass_of c.args.world.now c.args.c.number c.in-Some.parent.number c.args.d.number c.in-Some.ensures.found (c.climbs_to.ensures.0 t),
-  λ p. c.climbs_to.ensures.1 (superclass_from c.args.world.now c.args.c.number c.in-Some.parent.number c.args.d.number c.in-Some.ensures.world c.in-Some.ensures.found p),
+  λ t. superclass_of c.args.world.now c.args.c.number c.in-Some.parent.number c.args.d.number c.in-Some.ensures.found (c.is_subclass.ensures.exact.0 t),
+  λ p. c.is_subclass.ensures.exact.1 (superclass_from c.args.world.now c.args.c.number c.in-Some.parent.number c.args.d.number c.in-Some.ensures.world c.in-Some.ensures.found p),
 )

@@ -1,4 +1,3 @@
-use Rattle.std.proofs.Common.{ap, sym, ◌∙◌, Some}
 use Rattle.jv_world.proofs.SuperKinds.{HasItself-row}
 use Rattle.jv_world.proofs.Searching.{row_there}
 use Rattle.jv_world.proofs.causes.has_itself.Goals as goal

@@ -1,4 +1,4 @@
-use Rattle.std.proofs.Common.{◌≡◌, ℕ, not, true, false, Bool, refl, length, Option, option_copied, subst, arith, ap, sym, ◌∙◌}
+use Rattle.std.proofs.Common.{◌≡◌, ℕ, length, option_copied, subst, arith}
 use Rattle.jv_world.proofs.SuperKinds.{IsCheckedUpTo, checked-none, checked-same, checked-more, copied_none}
 use Rattle.jv_world.proofs.causes.least_wrong.Goals as goal
 use Rattle.jv_world.proofs.causes.least_wrong.Goals.{then-not-has_right_supers, else-not-has_right_supers}

@@ -1,4 +1,3 @@
-use Rattle.std.proofs.Common.{◌∙◌, length, ap, arith}
 use Rattle.jv_world.proofs.Searching.{IsMarking-none, AreLedFrom-more, AreLedFrom-none}
 use Rattle.jv_world.proofs.closure.all_led.Goals as goal
 

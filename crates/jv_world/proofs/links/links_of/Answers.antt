@@ -1,4 +1,4 @@
-use Rattle.std.proofs.Common.{refl, sym, ◌∙◌, arith, ap, length}
+use Rattle.std.proofs.Common.{arith}
 use Rattle.jv_world.proofs.Linking.{AreClassNames-shapes, AreRows-more, AreLinks-rows}
 use Rattle.jv_world.proofs.links.links_of.Goals as goal
 

@@ -1,7 +1,5 @@
-use Rattle.std.proofs.Common.{◌<◌, length, sym, ap, ◌∙◌, subst, arith}
-use Rattle.std.proofs.lemmas.List.Elements.{Contains-get_or}
-use Rattle.jv_types.specs.declared.ids.ClassId.{ClassId}
-use Rattle.jv_world.proofs.Marking.{found_few, marked_below}
+use Rattle.std.proofs.Common.{arith}
+use Rattle.jv_world.proofs.Marking.{found_few}
 use Rattle.jv_world.proofs.Searching.{IsSearch-start, IsSearch-step, IsFound-search, found_below}
 use Rattle.jv_world.proofs.closure.Search.find.Goals as goal
 

@@ -1,4 +1,4 @@
-use Rattle.jv_world.proofs.Searching.{IsMarking-permutation, IsMarking-none, AreLed-sorted}
+use Rattle.jv_world.proofs.Searching.{IsMarking-permutation, AreLed-sorted}
 use Rattle.jv_world.proofs.closure.Search.led_from.Goals as goal
 
 pub unmark-requires : goal.unmark-requires

@@ -1,5 +1,5 @@
 use Rattle.std.proofs.Common.{◌∙◌}
-use Rattle.jv_world.proofs.Marking.{AddsAll-one, AddsAll-already, marked-read}
+use Rattle.jv_world.proofs.Marking.{AddsAll-one, marked-read}
 use Rattle.jv_world.proofs.closure.Search.mark.Goals as goal
 
 pub returns : goal.returns

@@ -1,4 +1,3 @@
-use Rattle.std.proofs.Common.{◌≡◌, sym, ◌∙◌, ap, length}
 use Rattle.jv_world.proofs.Built.{AreInRange-links, missing, none_absent, circular, none_circular, wrong, AreSupers-led, IsWorld-built, IsKept-built}
 use Rattle.jv_world.proofs.world.World.build.Goals as goal
 

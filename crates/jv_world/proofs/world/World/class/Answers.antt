@@ -1,4 +1,4 @@
-use Rattle.std.proofs.Common.{◌≡◌, ℕ, List, ap, sym, ◌∙◌, slice_get}
+use Rattle.std.proofs.Common.{ℕ, List, ap, sym, ◌∙◌, slice_get}
 use Rattle.jv_world.proofs.NamesFound.{IsNamed-at, at_IsNamed}
 use Rattle.jv_world.proofs.world.World.class.Goals as goal
 

@@ -1,4 +1,4 @@
-use Rattle.std.proofs.Common.{◌≡◌, ℕ, List, [], ◌∷◌, ◌++◌, length, map, sym, ap, ◌∙◌, inl, arith, append-nil, subst}
+use Rattle.std.proofs.Common.{ℕ, List, [], length, map, ap, inl, arith, append-nil, subst}
 use Rattle.jv_types.specs.declared.ids.ClassId.{ClassId}
 use Rattle.jv_world.specs.Worlds.{AreSuperclasses}
 use Rattle.jv_world.proofs.Ranking.{AreSupers-kept, count_falls, count_at-read, AreSuperclasses-more}

@@ -9,7 +9,7 @@ use Rattle.jv_resolve.specs.Resolving.{IsInitKept, ResolvesInInterface}
 use Rattle.jv_resolve.proofs.Hierarchy.{named_here}
 use Rattle.jv_resolve.proofs.MethodLemmas.{nothing_at_interface, nothing_from_interface, resolves_interface}
 use Rattle.jv_resolve.proofs.Tests.{none_at, some_at, denied}
-use Rattle.jv_resolve.proofs.methods.interface_method.Goals as goal
+use Rattle.jv_resolve.proofs.methods.resolve_interface_method.Goals as goal
 
 pub returns-in_default-clause-refused : goal.returns-in_default-clause-refused
 returns-in_default-clause-refused c = (
@@ -31,19 +31,6 @@ returns-in_default-2-clause-refused c = (
       ((m : MethodId) → ResolvesInInterface c.args.world.now c.in-Some.start.number c.args.r.now.name c.args.r.now.desc m → IsInitKept c.args.world.now c.args.r.now m → ⊥)
       c.in_default-2.is c.in_ok-m.ensures.none),
 )
-
-pub returns-then-not-is_accessible-clause-refused : goal.returns-then-not-is_accessible-clause-refused
-returns-then-not-is_accessible-clause-refused c =
-    let found = some_at c.in_ok-m.field-0 c.in-Some-2.m
-    (λ (m : MethodId). ResolvesInInterface c.args.world.now c.in-Some.start.number c.args.r.now.name c.args.r.now.desc m × IsInitKept c.args.world.now c.args.r.now m) c.in-Some-2.is c.in_ok-m.ensures.found in (
-      c.in-Some-2.m,
-      resolves_interface c.args.world.now c.args.r.now c.in-Some.start.number c.in-Some-2.m
-          (some_at c.in_ok-start.field-0 c.in-Some.start (λ (k : ClassId). (d : ℕ) → BeginsAt c.args.world.now c.args.r.now.class d → d ≡ k.number) c.in-Some.is c.in_ok-start.ensures.one)
-          (c.names_interface.ensures.0 c.if-not-names_interface.false)
-          (some_at c.in_ok-start.field-0 c.in-Some.start (λ (k : ClassId). BeginsAt c.args.world.now c.args.r.now.class k.number) c.in-Some.is c.in_ok-start.ensures.found)
-          found.0 found.1,
-      denied c.is_accessible.result c.if-not-is_accessible.true c.is_accessible.ensures.1,
-    )
 
 pub returns-clause-resolved : goal.returns-clause-resolved
 returns-clause-resolved c =

@@ -3,7 +3,7 @@ use Rattle.jv_resolve.specs.DepthFirst.{Leads}
 use Rattle.jv_resolve.specs.Resolving.{DeclaresFieldIn}
 use Rattle.jv_resolve.proofs.FieldLemmas.{no_field}
 use Rattle.jv_resolve.proofs.Tests.{none_at}
-use Rattle.jv_resolve.proofs.fields.field.Goals as goal
+use Rattle.jv_resolve.proofs.fields.resolve_field.Goals as goal
 
 pub returns-in_default-clause-refused : goal.returns-in_default-clause-refused
 returns-in_default-clause-refused c = λ f p. c.in_default.ensures.none p.named p.name

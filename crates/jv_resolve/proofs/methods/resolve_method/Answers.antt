@@ -9,7 +9,7 @@ use Rattle.jv_resolve.specs.Resolving.{IsInitKept, ResolvesInClass}
 use Rattle.jv_resolve.proofs.Hierarchy.{named_here}
 use Rattle.jv_resolve.proofs.MethodLemmas.{nothing_at, nothing_from}
 use Rattle.jv_resolve.proofs.Tests.{none_at, some_at, denied}
-use Rattle.jv_resolve.proofs.methods.method.Goals as goal
+use Rattle.jv_resolve.proofs.methods.resolve_method.Goals as goal
 
 pub returns-in_default-clause-refused : goal.returns-in_default-clause-refused
 returns-in_default-clause-refused c = (
