@@ -54,7 +54,7 @@ pub enum Form {
     Method,
     /// The pool index of a method of an interface, two bytes, the argument words, one byte, and a zero.
     InterfaceMethod,
-    /// The pool index of a call site, two bytes, and two zeros.
+    /// The pool index of a call site, two bytes, and two more that are not looked at.
     Dynamic,
     /// The code of a primitive type, one byte.
     NewPrim,
