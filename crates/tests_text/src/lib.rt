@@ -5,4 +5,4 @@ mod hexadecimal;
 mod words;
 
 pub use hexadecimal::hex;
-pub use words::{three_words, word};
+pub use words::{part, three_words, word};

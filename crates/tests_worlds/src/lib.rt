@@ -11,6 +11,10 @@ mod maps;
 #[cfg(test)]
 mod resolution;
 #[cfg(test)]
+mod small;
+#[cfg(test)]
+mod types;
+#[cfg(test)]
 mod words;
 #[cfg(test)]
 mod worlds;

@@ -1,0 +1,82 @@
+//! Verification types and frames as text (JVMS 4.10.1.2). A type is a word: `top`, `int`, `float`, `long` and
+//! `double` (each of these two stands for its two words), `null`, `this` for uninitializedThis, `new@PC` for
+//! uninitialized, an array's descriptor, or a class's name. A frame is its locals, `|` and its stack, and
+//! `!` at the end where the flag flagThisUninit is set.
+
+use crate::small::name_of;
+use jv_desc::field_desc;
+use jv_types::{Desc, Frame, RefType, Seq, VType};
+use sqlite_items::Boxed;
+use std::alloc::Global;
+use std::test::Fail;
+
+/// What stands behind the brackets of an array's descriptor, and how many there are.
+fn innermost(text: &str) -> (&str, usize) {
+    let mut rest = text;
+    let mut brackets = 0usize;
+    while let Some(next) = rest.strip_prefix('[') {
+        rest = next;
+        brackets = brackets.saturating_add(1);
+    }
+    (rest, brackets)
+}
+
+/// An array, of its descriptor.
+fn array_of(alloc: Global, text: &str) -> Result<VType, Fail> {
+    let (inner, brackets) = innermost(text);
+    let mut of = match field_desc(alloc, inner.as_bytes())? {
+        Desc::Prim(prim) => VType::PrimArray(prim),
+        Desc::Ref(RefType::Class(name)) => VType::Array(Boxed::new(alloc, VType::Class(name))?),
+        Desc::Ref(_) => return Err(Fail::from("no array")),
+    };
+    for _ in 1..brackets {
+        of = VType::Array(Boxed::new(alloc, of)?);
+    }
+    Ok(of)
+}
+
+/// A type of a word.
+pub fn vtype_of(alloc: Global, text: &str) -> Result<VType, Fail> {
+    if let Some(pc) = text.strip_prefix("new@") {
+        return Ok(VType::Uninit(pc.parse::<u16>()?));
+    }
+    if text.starts_with('[') {
+        return array_of(alloc, text);
+    }
+    Ok(match text {
+        "top" => VType::Top,
+        "int" => VType::Integer,
+        "float" => VType::Float,
+        "long" => VType::Long,
+        "double" => VType::Double,
+        "null" => VType::Null,
+        "this" => VType::UninitThis,
+        _ => VType::Class(name_of(alloc, text)?),
+    })
+}
+
+/// The words of types.
+fn words_of(alloc: Global, text: &str) -> Result<Seq<VType>, Fail> {
+    let mut words = Seq::new(alloc);
+    for word in text.split(' ') {
+        if !word.is_empty() {
+            words.push(vtype_of(alloc, word)?)?;
+        }
+        if word == "long" || word == "double" {
+            words.push(VType::Top)?;
+        }
+    }
+    Ok(words)
+}
+
+/// A frame of a text.
+pub fn frame_of(alloc: Global, text: &str) -> Result<Frame, Fail> {
+    let this_uninit = text.ends_with('!');
+    let (locals, stack) = text.split_once('|').unwrap_or((text, ""));
+    let (stack, _) = stack.split_once('!').unwrap_or((stack, ""));
+    Ok(Frame {
+        locals: words_of(alloc, locals)?,
+        stack: words_of(alloc, stack)?,
+        this_uninit,
+    })
+}
