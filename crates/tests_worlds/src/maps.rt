@@ -9,7 +9,7 @@ use jv_insn::decode;
 use jv_pool::{Pool, read_pool};
 use jv_types::{Frame, MethodId};
 use jv_world::World;
-use std::alloc::{AllocError, Global};
+use std::alloc::Global;
 use std::test::Fail;
 use tests_text::{hex, part, word};
 
@@ -44,13 +44,8 @@ fn method_of(alloc: Global, world: &World, class: &str, index: u16) -> Result<Me
 }
 
 /// The `Code` of the loop, with so many local variables and a map of so many frames.
-fn code_text(
-    alloc: Global,
-    max_locals: u16,
-    count: u16,
-    frames: &[u8],
-) -> Result<Vec<u8>, AllocError> {
-    let length = frames.len() as u32;
+fn code_text(alloc: Global, max_locals: u16, count: u16, frames: &[u8]) -> Result<Vec<u8>, Fail> {
+    let length = u32::try_from(frames.len())?;
     let mut writer = Writer::new(alloc);
     writer.put_u2(4)?;
     writer.put_u4(length.saturating_add(28))?;

@@ -1,8 +1,6 @@
 //! Resolution of fields and methods, access, overriding and selection, over worlds as text. A line that begins
 //! with `#` says what the next ones show.
 
-ghost use Rattle.std.specs.Prelude.{◌<◌, length, IfOk, IfSome};
-
 use crate::small::{build, class_of, field_ref_of, method_of, method_ref_of};
 use jv_resolve::{
     ResolveRefusal, field, interface_method, is_class_accessible, method, overrides,

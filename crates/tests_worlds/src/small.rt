@@ -4,7 +4,7 @@
 //! `#` protected, `~` package-private, `-` private), one for its kind (`s` static, `a` abstract, `f` final, `c`
 //! static and final, `.` none of these), its name, and its descriptor behind a colon, or none for a method `()V`.
 
-ghost use Rattle.std.specs.Prelude.{IfOk, IfSome};
+ghost use Rattle.std.specs.Prelude.{◌<◌, length, IfOk, IfSome};
 ghost use Rattle.jv_resolve.specs.Members.{HasMethod};
 
 use jv_desc::{field_desc, method_desc};
@@ -162,7 +162,9 @@ pub fn build(alloc: Global, text: &str) -> Result<Result<World, HierRefusal>, Fa
 }
 
 /// The class of a name.
-pub fn class_of(alloc: Global, world: &World, text: &str) -> Result<Option<ClassId>, AllocError> {
+pub fn class_of(alloc: Global, world: &World, text: &str) -> Result<Option<ClassId>, AllocError>
+    ensures { IfOk result (λ o. IfSome o (λ c. c.number < length world.now)) }
+{
     Ok(world.class(&name_of(alloc, text)?))
 }
 

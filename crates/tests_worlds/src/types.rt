@@ -12,13 +12,10 @@ use std::test::Fail;
 
 /// What stands behind the brackets of an array's descriptor, and how many there are.
 fn innermost(text: &str) -> (&str, usize) {
-    let mut rest = text;
-    let mut brackets = 0usize;
-    while let Some(next) = rest.strip_prefix('[') {
-        rest = next;
-        brackets = brackets.saturating_add(1);
+    match text.rsplit_once('[') {
+        None => (text, 0),
+        Some((others, inner)) => (inner, others.len().saturating_add(1)),
     }
-    (rest, brackets)
 }
 
 /// An array, of its descriptor.

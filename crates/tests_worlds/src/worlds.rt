@@ -17,7 +17,6 @@ fn answers_over_a_small_world(rt: HostRuntime) -> Result<(), Fail> {
     let class = class_of(alloc, &world, "a/C")?.ok_or("a/C")?;
     let upper = class_of(alloc, &world, "a/I")?.ok_or("a/I")?;
     assert_eq!(rt; world.shapes().len(), 4);
-    assert!(rt; class.number < 4 && upper.number < 4);
     assert_eq!(rt; world.shape(class).name.as_slice(), b"a/C".as_slice());
     assert!(rt; world.sub(class, upper) && !world.sub(upper, class));
     assert_eq!(rt; world.superclasses(alloc, class)?.len(), 1);
