@@ -41,7 +41,7 @@ pub fn field_desc(alloc: Global, bytes: &[u8]) -> Result<Desc, BadDesc>
     }
 }
 
-/// The types before the first `)`, and the bytes after that.
+/// The types up to a `)` that is no part of a class name, and the bytes after that.
 fn params_at(alloc: Global, bytes: &[u8]) -> Result<(Vec<Desc>, &[u8]), BadDesc>
     ensures found { IfOk result (λ r. ReadsParams bytes.now r.0.items r.1.now) }
     ensures bad { result ≡ Err BadDesc.Bad → (ds : List Descs) (rest : List ℕ) → ReadsParams bytes.now ds rest → ⊥ }

@@ -90,9 +90,9 @@ abbrev pub is_interface_method : PoolItem → Bool
 is_interface_method (InterfaceMethod class pair) = true
 is_interface_method _ = false
 
--- a member that a method handle of a kind may name (JVMS table 5.4.3.5-A): a field where it reads or
--- writes one, a method where it calls or makes an object by one, a method of a class or an interface
--- where it calls a static or special one, and a method of an interface where it calls that
+-- A member that a method handle of a kind may name (JVMS table 5.4.3.5-A): a field for 1 to 4, a method of a
+-- class for 5 and 8, a method of a class or of an interface for 6 and 7, and a method of an interface for 9.
+-- Another kind may name none.
 abbrev pub is_handled : ℕ → PoolItem → Bool
 is_handled kind item =
     if kind == 0 || nat_lt 9 kind then false else

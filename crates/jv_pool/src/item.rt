@@ -13,7 +13,7 @@ pub enum PoolItem {
     Long(i64),
     /// A double, as its bits (JVMS 4.4.5).
     Double(u64),
-    /// A class or interface, by its name (JVMS 4.4.1).
+    /// A class or interface by its name, or an array by its descriptor (JVMS 4.4.1).
     Class(u16),
     /// A constant of the type `String`, by its text (JVMS 4.4.3).
     Text(u16),

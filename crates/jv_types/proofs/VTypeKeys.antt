@@ -7,7 +7,7 @@ use Rattle.jv_types.specs.declared.frames.VType.{VType, Array}
 use Rattle.jv_types.specs.Frames.{vtype_key, vtype_cmp}
 
 -- the key of an array is that of its items under its kind
-vtype_key-Array : (item : VType) → vtype_key (Array item) ≡ 10 ∷ vtype_key item
+pub vtype_key-Array : (item : VType) → vtype_key (Array item) ≡ 10 ∷ vtype_key item
 unfolding Rattle.jv_types.specs.declared.frames.VType.TheBlock.shape-the_row-VType-0 Rattle.jv_types.specs.declared.frames.VType.TheBlock.hidden-the_row-VType-0 denote.Hole.Carrier.hidden
 vtype_key-Array item = refl
 

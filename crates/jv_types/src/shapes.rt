@@ -43,9 +43,9 @@ impl Copied for MethodShape {
     }
 }
 
-/// What other classes see of a class or interface: its name and flags, its superclass (none of
-/// `java/lang/Object` alone), its superinterfaces and its members, and whether it belongs to the
-/// application.
+/// What other classes see of a class or interface: its name and flags, its superclass (none where the file
+/// names none, as that of `java/lang/Object` does), its superinterfaces and its members, and whether it
+/// belongs to the application.
 #[derive(Debug, PartialEq, Eq, PartialOrd, Ord, Drop)]
 pub struct Shape {
     pub name: Name,
