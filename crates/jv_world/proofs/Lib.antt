@@ -13,3 +13,4 @@ mod Ranking
 mod Rising
 mod Subclasses
 mod Subtypes
+mod Wholes

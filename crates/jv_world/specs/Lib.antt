@@ -5,3 +5,4 @@ pub mod Instances
 pub mod Refusals
 pub mod Kept
 pub mod Ranks
+pub mod Whole

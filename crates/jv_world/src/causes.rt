@@ -150,7 +150,7 @@ fn extends_object(shape: &Shape) -> bool
 }
 
 /// Whether the supertypes that a class names are of the right kinds (JVMS 4.1, 5.3.5).
-fn has_right_supers(shape: &Shape, shapes: &[Shape], names: &Names) -> bool
+pub fn has_right_supers(shape: &Shape, shapes: &[Shape], names: &Names) -> bool
     requires numbered { AreNumbered shapes.now }
     requires names { names.now ≡ map (λ s. s.name) shapes.now }
     ensures { IsTrue result ↔ HasRightSupers shapes.now shape.now }
@@ -177,7 +177,7 @@ pub fn least_wrong<'a>(shapes: &'a [Shape], names: &Names) -> Option<&'a Name>
 }
 
 /// Whether a class is in its own row.
-fn has_itself(rows: &[Vec<ClassId>], place: usize) -> bool
+pub fn has_itself(rows: &[Vec<ClassId>], place: usize) -> bool
     requires here { place < length rows.now }
     requires few { length rows.now < 2 ^ 32 }
     requires rising { AreRising rows.now }

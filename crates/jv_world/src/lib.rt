@@ -9,10 +9,12 @@ mod lists;
 mod names;
 mod numbered;
 mod refusal;
+mod whole;
 mod world;
 
 pub use causes::{is_final, is_interface};
 pub use instance::is_array_super;
 pub use numbered::are_numbered;
 pub use refusal::HierRefusal;
+pub use whole::whole_classes;
 pub use world::World;
