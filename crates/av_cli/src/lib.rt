@@ -8,4 +8,4 @@ mod top;
 
 pub use calls::{Answer, GraphError, call_graph};
 pub use status::Status;
-pub use top::run;
+pub use top::{run, stop_for_memory};

@@ -1,6 +1,7 @@
-ghost use Rattle.std.specs.Prelude.{◌≡◌, ◌⊎◌, map, option_map};
+ghost use Rattle.std.specs.Prelude.{◌≡◌, ◌⊎◌, [], map, option_map};
 ghost use Rattle.jv_host.specs.Counts.{one_more};
-ghost use Rattle.av_cli.specs.Calls.Ending.{Ends, CallsOnlyRead};
+ghost use Rattle.av_cli.specs.Calls.Answers.{error_line};
+ghost use Rattle.av_cli.specs.Calls.Ending.{Ends, CallsOnlyRead, Says};
 
 use crate::calls::{Answer, print_class, request_of, write_answer};
 use crate::status::Status;
@@ -51,4 +52,15 @@ pub fn run<H: Host, O: Sink, E: Sink>(
             answer.status()
         }
     }
+}
+
+/// Ends for want of memory before a command could be run, and tells err so. This takes no memory.
+pub fn stop_for_memory<E: Sink>(err: &mut E) -> Status
+    ensures status { result ≡ Status.Memory }
+    ensures said { Says (record { taken = E.taken err.old; faults = E.faults err.old; lacks = E.lacks err.old })
+        (record { taken = E.taken err.new; faults = E.faults err.new; lacks = E.lacks err.new }) (error_line [] Answer.OutOfMemory) }
+    ensures no_blank_told { E.blanks err.new ≡ E.blanks err.old }
+{
+    let _ = write_answer(err, Answer::OutOfMemory, b"");
+    Status::Memory
 }

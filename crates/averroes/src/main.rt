@@ -1,7 +1,7 @@
 //! The program: the real host and the real sinks, and the top call over them.
 #![tactic(auto)]
 
-use av_cli::{Status, run};
+use av_cli::{Status, run, stop_for_memory};
 use jv_host::{DirHost, StdSink};
 use std::alloc::{AllocError, Global};
 use std::env;
@@ -45,8 +45,10 @@ fn status(rt: &HostRuntime) -> Result<Status, AllocError> {
 }
 
 fn main(rt: HostRuntime) -> ExitCode {
-    match status(&rt) {
-        Ok(status) => ExitCode::from(status.code()),
-        Err(AllocError) => ExitCode::from(Status::Memory.code()),
-    }
+    // Memory is wanting here only where `run` was not called, which tells err itself.
+    let status = match status(&rt) {
+        Ok(status) => status,
+        Err(AllocError) => stop_for_memory(&mut StdSink::new(rt.stderr())),
+    };
+    ExitCode::from(status.code())
 }

@@ -86,7 +86,7 @@ fn reached<L: Ledger>(alloc: Global, blank: Blank, size: u32) -> Result<usize, C
 }
 
 /// Closes a graph of so many nodes from one of them, and prints how many it found.
-pub fn measure_close(rt: &(impl Print + AllocGlobal), size: u32) -> Result<()> {
+pub fn measure_close(rt: &HostRuntime, size: u32) -> Result<()> {
     ensure!(size > 0, "no nodes");
     let count = reached::<Brand>(rt.alloc(), Blank::new(1), size)
         .ok()

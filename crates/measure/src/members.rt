@@ -1,4 +1,4 @@
-ghost use Rattle.std.specs.Prelude.{IsTrue};
+ghost use Rattle.std.specs.Prelude.{IfSome};
 ghost use Rattle.jv_resolve.specs.Members.{HasMethod};
 
 use crate::worlds::{Family, name_of, shapes_of};
@@ -62,14 +62,23 @@ fn refs_of(alloc: Global, classes: u32, methods: u32) -> Result<Vec<MethodRef>, 
     Ok(refs)
 }
 
-/// Whether a world has a method of this number.
-fn has_method(world: &World, m: MethodId) -> bool
-    ensures { IsTrue result → HasMethod world.now m }
+/// The method of this number, where a world has it.
+fn in_world(world: &World, m: MethodId) -> Option<MethodId>
+    ensures { IfSome result (HasMethod world.now) }
 {
-    match world.shapes().get(m.class.number as usize) {
-        Some(shape) => (m.index as usize) < shape.methods.len(),
-        None => false,
+    let shapes = world.shapes();
+    let class = m.class.number as usize;
+    if class >= shapes.len() {
+        return None;
     }
+    let shape = &shapes[class];
+    let methods = shape.methods.as_slice();
+    let place = usize::from(m.index);
+    if place >= methods.len() {
+        return None;
+    }
+    let _method = &methods[place];
+    Some(m)
 }
 
 /// Whether a reference resolves in a class, to a method that a call on an object of that class then selects.
@@ -80,9 +89,9 @@ fn is_selected(alloc: Global, world: &World, class: ClassId, r: &MethodRef) -> R
     let m = method(alloc, world, class, r)
         .ok()
         .context("a method that isn't resolved")?;
-    if !has_method(world, m) {
+    let Some(m) = in_world(world, m) else {
         return Ok(false);
-    }
+    };
     Ok(select_virtual(alloc, world, class, m)? == Some(m))
 }
 

@@ -1,4 +1,4 @@
-use Rattle.measure.proofs.graph.Given as goal
+use Rattle.measure.proofs.graph.measure_close.Given as goal
 
 abbrev pub ghosts-reached : goal.ghosts-reached
 ghosts-reached a = record { name = a.blank.name; parts = a.blank.parts }
