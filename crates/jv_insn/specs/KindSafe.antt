@@ -15,7 +15,9 @@ use Rattle.jv_types.specs.declared.body.Body.{Body}
 use Rattle.jv_types.specs.declared.frames.Frame.{Frame}
 use Rattle.jv_types.specs.declared.frames.FramedBody.{FramedBody}
 use Rattle.jv_insn.specs.Effects.{Shuffle, effect_of, op_row, is_return, desc_cell, result_cells}
-use Rattle.jv_insn.specs.Kinds.{EndsWithCells, HoldsCell, Reference, cell_words, Words, words_of, words_after, Fits}
+use Rattle.jv_insn.specs.Forms.{HasOwnOperands}
+use Rattle.jv_insn.specs.Leaving.{Words}
+use Rattle.jv_insn.specs.Kinds.{EndsWithCells, HoldsCell, WordKind, Reference, cell_words, kinds_of, kinds_left, SaysNoMore}
 
 -- ---- the method
 
@@ -28,7 +30,7 @@ abbrev pub is_static : MethodShape → Bool
 is_static shape = bit_and shape.flags.0 8 == 8
 
 -- what the words hold as a method begins: the receiver, where there is one, and the arguments (JVMS 2.6.1)
-abbrev pub entry_words : MethodShape → Words
+abbrev pub entry_words : MethodShape → Words WordKind
 entry_words shape = record {
   locals = (if is_static shape then [] else Reference ∷ []) ++ flat_map cell_words (map desc_cell shape.desc.params);
   stack = [];
@@ -37,13 +39,13 @@ entry_words shape = record {
 -- ---- places and frames
 
 -- the frame before the instruction that starts at an offset fits these words
-pub record FitsAt (frames : List (ℕ × Frame)) (pc : ℕ) (words : Words) : Type 0 where
+pub record FitsAt (frames : List (ℕ × Frame)) (pc : ℕ) (words : Words WordKind) : Type 0 where
   pub frame : Frame
   pub stands : at_offset pc frames ≡ Some frame
-  pub fits : Fits (words_of frame) words
+  pub fits : SaysNoMore (kinds_of frame) words
 
 -- the same before the next instruction, and there is one
-pub record FitsNext (body : Body) (frames : List (ℕ × Frame)) (pc : ℕ) (words : Words) : Type 0 where
+pub record FitsNext (body : Body) (frames : List (ℕ × Frame)) (pc : ℕ) (words : Words WordKind) : Type 0 where
   pub next : ℕ
   pub follows : IsNextStart pc body.insns next
   pub fits : FitsAt frames next words
@@ -72,15 +74,17 @@ HasEffect (Some row) = row.kind ≡ Outside → ⊥
 -- it leaves
 pub record IsKindSafeAt (result : List Cell) (framed : FramedBody) (pc : ℕ) (insn : Insn) (frame : Frame) : Type 0 where
   pub known : HasEffect (op_row insn.op)
+  -- its operands are of its opcode's layout
+  pub operands : HasOwnOperands insn
   pub takes : EndsWithCells (effect_of insn).takes frame.stack
   pub moves : HasWords (effect_of insn).shuffle (length frame.stack)
   pub reads : All (LocalHolds frame) (effect_of insn).reads
   -- a return is that of the method's result
   pub returns : IsTrue (is_return insn.op) → (effect_of insn).takes ≡ result
-  pub falls : IsTrue (effect_of insn).falls → FitsNext framed.body framed.frames pc (words_after (effect_of insn) (words_of frame))
-  pub jumps : (target : ℕ) → Contains (effect_of insn).targets target → FitsAt framed.frames target (words_after (effect_of insn) (words_of frame))
+  pub falls : IsTrue (effect_of insn).falls → FitsNext framed.body framed.frames pc (kinds_left insn (kinds_of frame))
+  pub jumps : (target : ℕ) → Contains (effect_of insn).targets target → FitsAt framed.frames target (kinds_left insn (kinds_of frame))
   -- a handler finds the local variables as they were, and the throwable alone on the stack
-  pub throws : (handler : Handler) → Contains framed.body.handlers handler → Covers handler pc → FitsAt framed.frames handler.target (record { locals = (words_of frame).locals; stack = Reference ∷ [] })
+  pub throws : (handler : Handler) → Contains framed.body.handlers handler → Covers handler pc → FitsAt framed.frames handler.target (record { locals = (kinds_of frame).locals; stack = Reference ∷ [] })
 
 -- ---- methods
 

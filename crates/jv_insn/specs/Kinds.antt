@@ -1,12 +1,14 @@
 -- What the words of a frame hold: the words of a number, or a reference.
-use Rattle.std.specs.Prelude.{◌≡◌, ℕ, ◌-◌, ◌+◌, Bool, true, false, IsTrue, if◌then◌else◌, List, [], ◌∷◌, ◌++◌, length, take, drop, map, Option, None, Some, slice_get, slice_set, slice_index_or, ◌⊎◌}
+use Rattle.std.specs.Prelude.{◌≡◌, ℕ, ◌-◌, Bool, true, false, IsTrue, if◌then◌else◌, List, [], ◌∷◌, ◌++◌, length, Some, slice_get, slice_index_or, ◌⊎◌}
 use Rattle.std.specs.List.{flat_map}
 use Rattle.jv_table.specs.declared.code_tables.Cell.{Cell}
 use Rattle.jv_table.specs.declared.code_tables.Cell.TheVariants.{Int, Float, Long, Double, Ref, Null}
 use Rattle.jv_types.specs.declared.frames.VType.{VType, Top, Integer}
 use Rattle.jv_types.specs.declared.frames.VType as types
 use Rattle.jv_types.specs.declared.frames.Frame.{Frame}
-use Rattle.jv_insn.specs.Effects.{Effect, Shuffle}
+use Rattle.jv_types.specs.declared.instruction.Insn.{Insn}
+use Rattle.jv_insn.specs.Effects.{cells_given}
+use Rattle.jv_insn.specs.Leaving.{Place, AtLocal, AtStack, Words, words_below, words_after}
 
 -- ---- cells in a frame
 
@@ -79,53 +81,28 @@ kinds_after second [] = []
 kinds_after second (type ∷ types) = kind_of second type ∷ kinds_after (is_wide type) types
 
 -- what the words of the local variables and of the stack hold
-pub record Words : Type 0 where
-  pub locals : List WordKind
-  pub stack : List WordKind
-
-abbrev pub words_of : Frame → Words
-words_of frame = record { locals = kinds_after false frame.locals; stack = kinds_after false frame.stack }
+abbrev pub kinds_of : Frame → Words WordKind
+kinds_of frame = record { locals = kinds_after false frame.locals; stack = kinds_after false frame.stack }
 
 -- ---- what an instruction leaves
 
--- the stack after so many words were taken from its top
-abbrev pub stack_below : ℕ → List WordKind → List WordKind
-stack_below count stack = take (length stack - count) stack
+-- The kind of a word that is given anew, where the stack before has this depth: on the stack that of its cell.
+-- The one local variable whose word is given anew has the int of an iinc.
+abbrev pub kind_given : Insn → ℕ → Place → WordKind
+kind_given insn depth (AtLocal local) = Word
+kind_given insn depth (AtStack place) = slice_index_or (flat_map cell_words (cells_given insn.op insn.arg)) (place - words_below insn depth) Unknown
 
--- the words at the top of a stack after they were moved
-abbrev pub moved : Shuffle → List WordKind → List WordKind
-moved shuffle stack =
-    map (λ (place : ℕ). slice_index_or (drop (length stack - shuffle.count) stack) place Unknown) shuffle.order
-
--- the stack after an instruction
-abbrev pub stack_after : Effect → List WordKind → List WordKind
-stack_after effect stack = by_shuffle effect.shuffle
-  where
-    by_shuffle : Option Shuffle → List WordKind
-    by_shuffle None = stack_below (length (flat_map cell_words effect.takes)) stack ++ flat_map cell_words effect.gives
-    by_shuffle (Some shuffle) = stack_below shuffle.count stack ++ moved shuffle stack
-
--- the local variables after these words were written from one on
-abbrev pub written_from : ℕ → List WordKind → List WordKind → List WordKind
-written_from local [] locals = locals
-written_from local (kind ∷ kinds) locals = written_from (local + 1) kinds (slice_set locals local kind)
-
--- the local variables after these cells were written
-abbrev pub locals_after : List (ℕ × Cell) → List WordKind → List WordKind
-locals_after [] locals = locals
-locals_after (write ∷ writes) locals = locals_after writes (written_from write.0 (cell_words write.1) locals)
-
--- what an instruction leaves of the words that it finds
-abbrev pub words_after : Effect → Words → Words
-words_after effect words = record { locals = locals_after effect.writes words.locals; stack = stack_after effect words.stack }
+-- the kinds of the words after an instruction: a word that is left keeps its kind
+abbrev pub kinds_left : Insn → Words WordKind → Words WordKind
+kinds_left insn words = words_after insn (kind_given insn (length words.stack)) words
 
 -- a frame says that a word holds something only where these words do
 abbrev pub SaysOnly : List WordKind → List WordKind → Type 0
 SaysOnly said words =
     (place : ℕ) (kind : WordKind) → slice_get said place ≡ Some kind → (kind ≡ Unknown) ⊎ (slice_get words place ≡ Some kind)
 
--- a frame that fits what is left: it claims no word that isn't there, and its stack is as deep
-pub record Fits (said words : Words) : Type 0 where
+-- a frame says no more than holds of these words: it claims no word that isn't there, and its stack is as deep
+pub record SaysNoMore (said words : Words WordKind) : Type 0 where
   pub locals : SaysOnly said.locals words.locals
   pub stack : SaysOnly said.stack words.stack
   pub depth : length said.stack ≡ length words.stack

@@ -4,9 +4,11 @@ pub mod Effects
 pub mod Encoding
 pub mod Entries
 pub mod Finding
+pub mod Forms
 pub mod KindSafe
 pub mod Kinds
 pub mod Layouts
+pub mod Leaving
 pub mod Meanings
 pub mod Reading
 pub mod Rows

@@ -27,6 +27,7 @@ use Rattle.jv_insn.specs.declared.written.Operands.{Operands}
 use Rattle.jv_insn.specs.declared.written.Operands.TheVariants.{Nothing, Local, Small, Inc, Index, Called, Site, NewPrim, Multi, Jump, Table, Lookup}
 use Rattle.jv_insn.specs.declared.written.Written.{Written}
 use Rattle.jv_insn.specs.Effects.{op_row, is_load, is_store, local_of}
+use Rattle.jv_insn.specs.Forms.{is_category_2}
 
 -- ---- classes
 
@@ -91,9 +92,7 @@ pub record NamesMethod (pool : List PoolItem) (index : ℕ) (method : MethodRef)
 
 -- the constant takes two words
 abbrev pub is_two : Const → Bool
-is_two (consts.Long value) = true
-is_two (consts.Double bits) = true
-is_two _ = false
+is_two constant = is_category_2 constant
 
 -- the index names this constant
 abbrev pub NamesConst : List PoolItem → ℕ → Const → Type 0
