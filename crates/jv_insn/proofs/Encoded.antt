@@ -13,15 +13,16 @@ use Rattle.jv_types.specs.declared.body.Handler.{Handler}
 use Rattle.jv_types.specs.declared.body.Body.{Body}
 use Rattle.jv_pool.specs.declared.item.PoolItem.{PoolItem}
 use Rattle.jv_insn.specs.declared.written.Written.{Written}
-use Rattle.jv_insn.specs.Layouts.{head_text, IsInsnText, BeginsWithInsn, Ends, AtEnd, BreaksOff, Lays}
+use Rattle.jv_insn.specs.Layouts.{head_text, IsInsnText, BeginsWithInsn, AtEnd, Lays}
 use Rattle.jv_insn.specs.Meanings.{IsInsn}
 use Rattle.jv_insn.specs.Decoding.{IsRow, IsHandler, Decodes}
 use Rattle.jv_insn.specs.Entries.{entry_of, arg_place, Grows}
-use Rattle.jv_insn.specs.Encoding.{form_of, arg_text, index_in, insn_text, code_text, is_left_out, IsSpelled, StandsNear, MayEncode, NamesHandler, DecodesTo}
+use Rattle.jv_insn.specs.Encoding.{form_of, arg_text, index_in, insn_text, code_text, is_left_out, insn_size, IsSpelled, StandsNear, MayStand, AreLaid, HasPlaces, MayEncode, NamesHandler, DecodesTo}
 use Rattle.jv_insn.specs.Writing.{FitsArg, IsSpelledInsn, MayPut}
 use Rattle.jv_insn.proofs.Placed.{arg_later, index_is}
 use Rattle.jv_insn.proofs.Rewriting.{Starts, layout_row, again}
 use Rattle.jv_insn.proofs.Tables.{ldc_alone}
+use Rattle.jv_insn.proofs.ByteCounts.{size_of_text}
 
 -- ---- an instruction
 
@@ -69,11 +70,15 @@ insn_again old max_locals rows pool pc w text insn h t ready =
 
 -- ---- a code
 
--- rows of the same offsets
-pub SameStart : ℕ × Written → ℕ × Written → Type 0
+-- an instruction and how it is written have the same offset
+pub SameStart : ℕ × Insn → ℕ × Written → Type 0
 SameStart a b = a.0 ≡ b.0
 
-pub starts_on : (rows news : List (ℕ × Written)) → AllZip SameStart rows news → Starts rows news
+-- starts of instructions are starts of these rows too
+abbrev pub StartsOf : List (ℕ × Insn) → List (ℕ × Written) → Type 0
+StartsOf insns rows = (q : ℕ) → IsStart insns q → IsStart rows q
+
+starts_on : (insns : List (ℕ × Insn)) (news : List (ℕ × Written)) → AllZip SameStart insns news → StartsOf insns news
 unfolding SameStart
 starts_on [] [] h q s = s
 starts_on [] (n ∷ news) h q s = absurd h
@@ -84,78 +89,73 @@ starts_on (r ∷ rows) (n ∷ news) h q s = subst (λ (k : ℕ). IsSome (cond (e
     by true s more = refl
     by false s more = more s
 
--- a code of the same size that is written over a pool, of the same instructions
-pub record IsCodeAgain (max_locals : ℕ) (all : List (ℕ × Written)) (pool : List PoolItem) (pc size : ℕ) (rows : List (ℕ × Written)) (insns : List (ℕ × Insn)) : Type 0 where
+-- a code that is written over a pool, of the same instructions
+pub record IsCodeAgain (max_locals : ℕ) (all : List (ℕ × Insn)) (pool : List PoolItem) (pc end : ℕ) (insns : List (ℕ × Insn)) : Type 0 where
   pub news : List (ℕ × Written)
   pub laid : Lays pc (code_text pool insns) news None
-  pub size_is : length (code_text pool insns) ≡ size
-  pub same : AllZip SameStart rows news
-  pub names : (more : List PoolItem) (others : List (ℕ × Written)) → Starts all others → AllZip (IsRow (pool ++ more) max_locals others) news insns
+  pub size_is : pc + length (code_text pool insns) ≡ end
+  pub same : AllZip SameStart insns news
+  pub names : (more : List PoolItem) (others : List (ℕ × Written)) → StartsOf all others → AllZip (IsRow (pool ++ more) max_locals others) news insns
 
-no_end : {pc byte : ℕ} {bytes : List ℕ} {end : Option ℕ} → Ends pc (byte ∷ bytes) end → end ≡ None → ⊥
-no_end (BreaksOff none) e = absurd cc
-
-all_read : (pc : ℕ) (bytes : List ℕ) → Ends pc bytes None → length bytes ≡ 0
-all_read pc [] e = refl
-all_read pc (b ∷ bytes) e = absurd (no_end e refl)
-
-pub code_again : (old : List PoolItem) (max_locals : ℕ) (all : List (ℕ × Written)) (pool : List PoolItem) (pc : ℕ) (bytes : List ℕ) (rows : List (ℕ × Written)) (insns : List (ℕ × Insn)) → Lays pc bytes rows None
-    → AllZip (IsRow old max_locals all) rows insns → AllByRecursion (λ (row : ℕ × Insn). IsReady pool row.1) insns → IsCodeAgain max_locals all pool pc (length bytes) rows insns
+pub code_again : (max_locals : ℕ) (all : List (ℕ × Insn)) (pool : List PoolItem) (pc end : ℕ) (insns : List (ℕ × Insn)) → AreLaid pc insns end
+    → AllByRecursion (λ (row : ℕ × Insn). MayStand max_locals all row.0 row.1) insns → AllByRecursion (λ (row : ℕ × Insn). IsReady pool row.1) insns → IsCodeAgain max_locals all pool pc end insns
 unfolding SameStart
-code_again old max_locals all pool pc bytes [] [] h z ready = record { news = []; laid = AtEnd; size_is = sym (all_read pc bytes h); same = tt; names = λ more others on. tt }
-code_again old max_locals all pool pc bytes [] (i ∷ insns) h z ready = absurd z
-code_again old max_locals all pool pc bytes (row ∷ rows) [] h z ready = absurd z
-code_again old max_locals all pool pc bytes (row ∷ rows) (i ∷ insns) h z ready =
-    let rest = h.0 in
-    let b = h.1.1 in
-    let here : i.0 ≡ pc = z.0.pc ∙ h.1.0 in
-    let is_insn : IsInsn old max_locals all pc row.1 i.1 = subst (λ (p : ℕ). IsInsn old max_locals all p row.1 i.1) h.1.0 z.0.is_insn in
-    let a = insn_again old max_locals all pool pc row.1 b.front i.1 is_insn b.is_text ready.0 in
-    let r = code_again old max_locals all pool (pc + (length bytes - length rest)) rest rows insns h.1.2 z.1 ready.1 in
+code_again max_locals all pool pc end [] l each ready = record { news = []; laid = AtEnd; size_is = omega (arith, l); same = tt; names = λ more others on. tt }
+code_again max_locals all pool pc end (i ∷ insns) l each ready =
+    let here : i.0 ≡ pc = l.0 in
+    let m = each.0 in
+    let is_insn : IsInsn m.pool max_locals m.rows pc m.written i.1 = subst (λ (p : ℕ). IsInsn m.pool max_locals m.rows p m.written i.1) here m.is_insn in
+    let is_text : IsInsnText pc m.text m.written = subst (λ (p : ℕ). IsInsnText p m.text m.written) here m.is_text in
+    let a = insn_again m.pool max_locals m.rows pool pc m.written m.text i.1 is_insn is_text ready.0 in
+    let size = insn_size pc i.1 in
+    let r = code_again max_locals all pool (pc + size) end insns l.1 each.1 ready.1 in
     let front = insn_text pool pc i.1 in
     let behind = code_text pool insns in
     let text : code_text pool (i ∷ insns) ≡ front ++ behind = ap (λ (p : ℕ). insn_text pool p i.1 ++ behind) here in
-    let size : length (front ++ behind) ≡ length bytes = length-append front behind ∙ ap (λ (n : ℕ). n + length behind) a.size_is ∙ ap (λ (n : ℕ). length b.front + n) r.size_is ∙ sym (length-append b.front rest) ∙ ap length (sym b.parts) in
-    let next : pc + (length bytes - length rest) ≡ pc + (length (front ++ behind) - length behind) = ap (λ (n : ℕ). pc + (n - length rest)) (sym size) ∙ ap (λ (n : ℕ). pc + (length (front ++ behind) - n)) (sym r.size_is) in
+    let as_long : length front ≡ size = size_of_text pool pc i.1 ready.0.whole in
+    let whole : length (front ++ behind) ≡ size + length behind = length-append front behind ∙ ap (λ (n : ℕ). n + length behind) as_long in
+    let next : pc + size ≡ pc + (length (front ++ behind) - length behind) = steps pc size (length behind) (length (front ++ behind)) whole in
     let begins : BeginsWithInsn pc (front ++ behind) a.written behind = record { front = front; is_text = a.is_text; parts = refl } in
     let laid : Lays pc (front ++ behind) ((pc, a.written) ∷ r.news) None = (behind, (refl, begins, subst (λ (p : ℕ). Lays p behind r.news None) next r.laid)) in
     record {
       news = (pc, a.written) ∷ r.news;
       laid = subst (λ (t : List ℕ). Lays pc t ((pc, a.written) ∷ r.news) None) (sym text) laid;
-      size_is = ap length text ∙ size;
-      same = (h.1.0, r.same);
-      names = λ more others on. (record { pc = here; is_insn = a.names more others on }, r.names more others on);
+      size_is = ap (λ (t : List ℕ). pc + length t) text ∙ sums pc size (length behind) (length (front ++ behind)) end whole r.size_is;
+      same = (here, r.same);
+      names = λ more others on. (record { pc = here; is_insn = a.names more others (λ q s. on q (m.starts q s)) }, r.names more others on);
     }
+  where
+    steps : (pc size behind whole : ℕ) → whole ≡ size + behind → pc + size ≡ pc + (whole - behind)
+    steps pc size behind whole e = omega (arith, e)
+
+    sums : (pc size behind whole end : ℕ) → whole ≡ size + behind → (pc + size) + behind ≡ end → pc + whole ≡ end
+    sums pc size behind whole end e f = omega (arith, e, f)
 
 -- ---- handlers
 
-handlers_again : (old pool : List PoolItem) (size : ℕ) (rows news : List (ℕ × Written)) → Starts rows news → (olds raws : List RawHandler) (handlers : List Handler) → AllZip (IsHandler old size rows) olds handlers
+handlers_again : (pool : List PoolItem) (size : ℕ) (insns : List (ℕ × Insn)) (news : List (ℕ × Written)) → StartsOf insns news → (raws : List RawHandler) (handlers : List Handler) → AllByRecursion (HasPlaces insns size) handlers
     → AllZip (NamesHandler pool) raws handlers → AllZip (IsHandler pool size news) raws handlers
-handlers_again old pool size rows news on olds [] [] h k = tt
-handlers_again old pool size rows news on olds [] (x ∷ xs) h k = absurd k
-handlers_again old pool size rows news on olds (r ∷ raws) [] h k = absurd k
-handlers_again old pool size rows news on [] (r ∷ raws) (x ∷ xs) h k = absurd h
-handlers_again old pool size rows news on (o ∷ olds) (r ∷ raws) (x ∷ xs) h k =
+handlers_again pool size insns news on [] [] h k = tt
+handlers_again pool size insns news on [] (x ∷ xs) h k = absurd k
+handlers_again pool size insns news on (r ∷ raws) [] h k = absurd k
+handlers_again pool size insns news on (r ∷ raws) (x ∷ xs) h k =
     let a = h.0 in
     let b = k.0 in
-    let start : o.start ≡ r.start = sym a.start ∙ b.start in
-    let end : o.end ≡ r.end = sym a.end ∙ b.end in
-    let target : o.target ≡ r.target = sym a.target ∙ b.target in
-    let covers : o.start < o.end = a.bounds.covers in
-    let ends : IsStart news r.end ⊎ (r.end ≡ size) = elim a.bounds.ends [ inl s ↦ inl (on r.end (subst (IsStart rows) end s)) | inr e ↦ inr (sym end ∙ e) ] in (
+    let covers : x.start < x.end = a.covers in
+    let ends : IsStart news r.end ⊎ (r.end ≡ size) = elim a.ends [ inl s ↦ inl (on r.end (subst (IsStart insns) b.end s)) | inr e ↦ inr (sym b.end ∙ e) ] in (
       record {
         start = b.start;
         end = b.end;
         target = b.target;
         bounds = record {
-          covers = omega (arith, covers, start, end);
-          starts = on r.start (subst (IsStart rows) start a.bounds.starts);
+          covers = omega (arith, covers, b.start, b.end);
+          starts = on r.start (subst (IsStart insns) b.start a.starts);
           ends = ends;
-          leads = on r.target (subst (IsStart rows) target a.bounds.leads);
+          leads = on r.target (subst (IsStart insns) b.target a.leads);
         };
         catch = b.catch;
       },
-      handlers_again old pool size rows news on olds raws xs h.1 k.1,
+      handlers_again pool size insns news on raws xs h.1 k.1,
     )
 
 -- ---- a body
@@ -167,10 +167,9 @@ pub record IsBodyAgain (pool : List PoolItem) (body : Body) : Type 0 where
 
 pub body_again : (initial pool : List PoolItem) (body : Body) → MayEncode initial body → AllByRecursion (λ (row : ℕ × Insn). IsReady pool row.1) body.insns → IsBodyAgain pool body
 body_again initial pool body may ready =
-    let s = may.spelled in
-    let d = s.decodes in
-    let a = code_again s.pool body.max_locals d.rows pool 0 s.code d.rows body.insns d.laid d.insns ready in
-    let on = starts_on d.rows a.news a.same in
+    let a = code_again body.max_locals body.insns pool 0 body.length body.insns may.laid may.each ready in
+    let on = starts_on body.insns a.news a.same in
+    let size : length (code_text pool body.insns) ≡ body.length = omega (arith, a.size_is) in
     record {
       decodes = λ later handlers grows named. subst (λ (p : List PoolItem). Decodes p body.max_stack body.max_locals (code_text pool body.insns) handlers body) (sym grows.1) (record {
         stack_is = refl;
@@ -179,45 +178,50 @@ body_again initial pool body may ready =
         laid = a.laid;
         insns = a.names grows.0 a.news on;
         handlers_are =
-            subst (λ (n : ℕ). AllZip (IsHandler (pool ++ grows.0) n a.news) handlers body.handlers) (sym a.size_is)
-            (handlers_again s.pool (pool ++ grows.0) (length s.code) d.rows a.news on s.handlers handlers body.handlers d.handlers_are (subst (λ (p : List PoolItem). AllZip (NamesHandler p) handlers body.handlers) grows.1 named));
-        length_is = d.length_is ∙ sym a.size_is;
+            subst (λ (n : ℕ). AllZip (IsHandler (pool ++ grows.0) n a.news) handlers body.handlers) (sym size)
+            (handlers_again (pool ++ grows.0) body.length body.insns a.news on handlers body.handlers may.handlers (subst (λ (p : List PoolItem). AllZip (NamesHandler p) handlers body.handlers) grows.1 named));
+        length_is = sym size;
       });
-      size_is = a.size_is ∙ sym d.length_is;
+      size_is = size;
     }
 
 -- ---- each instruction
 
-spelled_insns : (old : List PoolItem) (max_locals : ℕ) (all : List (ℕ × Written)) (pc : ℕ) (bytes : List ℕ) (rows : List (ℕ × Written)) (insns : List (ℕ × Insn)) → Lays pc bytes rows None
-    → AllZip (IsRow old max_locals all) rows insns → AllByRecursion (λ (row : ℕ × Insn). IsSpelledInsn row.0 row.1) insns
-spelled_insns old max_locals all pc bytes [] [] h z = tt
-spelled_insns old max_locals all pc bytes [] (i ∷ insns) h z = absurd z
-spelled_insns old max_locals all pc bytes (row ∷ rows) [] h z = absurd z
-spelled_insns old max_locals all pc bytes (row ∷ rows) (i ∷ insns) h z =
+-- some bytes are this instruction, over a pool and among rows
+pub record IsSpelledOver (pool : List PoolItem) (max_locals : ℕ) (rows : List (ℕ × Written)) (pc : ℕ) (insn : Insn) : Type 0 where
+  pub written : Written
+  pub text : List ℕ
+  pub is_insn : IsInsn pool max_locals rows pc written insn
+  pub is_text : IsInsnText pc text written
+
+pub spelled_insns : (pool : List PoolItem) (max_locals : ℕ) (all : List (ℕ × Written)) (pc : ℕ) (bytes : List ℕ) (rows : List (ℕ × Written)) (insns : List (ℕ × Insn)) → Lays pc bytes rows None
+    → AllZip (IsRow pool max_locals all) rows insns → AllByRecursion (λ (row : ℕ × Insn). IsSpelledOver pool max_locals all row.0 row.1) insns
+spelled_insns pool max_locals all pc bytes [] [] h z = tt
+spelled_insns pool max_locals all pc bytes [] (i ∷ insns) h z = absurd z
+spelled_insns pool max_locals all pc bytes (row ∷ rows) [] h z = absurd z
+spelled_insns pool max_locals all pc bytes (row ∷ rows) (i ∷ insns) h z =
     let b = h.1.1 in
     let here : i.0 ≡ pc = z.0.pc ∙ h.1.0 in (
       record {
-        pool = old;
-        max_locals = max_locals;
-        rows = all;
         written = row.1;
         text = b.front;
-        is_insn = subst (λ (p : ℕ). IsInsn old max_locals all p row.1 i.1) (sym z.0.pc) z.0.is_insn;
+        is_insn = subst (λ (p : ℕ). IsInsn pool max_locals all p row.1 i.1) (sym z.0.pc) z.0.is_insn;
         is_text = subst (λ (p : ℕ). IsInsnText p b.front row.1) (sym here) b.is_text;
       },
-      spelled_insns old max_locals all (pc + (length bytes - length h.0)) h.0 rows insns h.1.2 z.1,
+      spelled_insns pool max_locals all (pc + (length bytes - length h.0)) h.0 rows insns h.1.2 z.1,
     )
 
-all_may : (pool : List PoolItem) (insns : List (ℕ × Insn)) → AllByRecursion (λ (row : ℕ × Insn). IsSpelledInsn row.0 row.1) insns → AllByRecursion (λ (row : ℕ × Insn). is_left_out row.1.arg ≡ false) insns
+all_may : (max_locals : ℕ) (all : List (ℕ × Insn)) (pool : List PoolItem) (insns : List (ℕ × Insn)) → AllByRecursion (λ (row : ℕ × Insn). MayStand max_locals all row.0 row.1) insns → AllByRecursion (λ (row : ℕ × Insn). is_left_out row.1.arg ≡ false) insns
     → AllByRecursion (λ (row : ℕ × Insn). StandsNear pool row.1) insns → AllByRecursion (λ (row : ℕ × Insn). MayPut pool row.0 row.1) insns
-all_may pool [] s w n = tt
-all_may pool (i ∷ insns) s w n = (record { spelled = s.0; whole = w.0; near = n.0 }, all_may pool insns s.1 w.1 n.1)
+all_may max_locals all pool [] s w n = tt
+all_may max_locals all pool (i ∷ insns) s w n =
+    let m = s.0 in
+    let spelled : IsSpelledInsn i.0 i.1 = record { pool = m.pool; max_locals = max_locals; rows = m.rows; written = m.written; text = m.text; is_insn = m.is_insn; is_text = m.is_text } in
+    (record { spelled = spelled; whole = w.0; near = n.0 }, all_may max_locals all pool insns s.1 w.1 n.1)
 
 -- each instruction of a body that may be encoded may be written
 pub each_may : (pool : List PoolItem) (body : Body) → MayEncode pool body → AllByRecursion (λ (row : ℕ × Insn). MayPut pool row.0 row.1) body.insns
-each_may pool body may =
-    let s = may.spelled in
-    all_may pool body.insns (spelled_insns s.pool body.max_locals s.decodes.rows 0 s.code s.decodes.rows body.insns s.decodes.laid s.decodes.insns) may.whole may.near
+each_may pool body may = all_may body.max_locals body.insns pool body.insns may.each may.whole may.near
 
 -- ---- near constants
 
@@ -242,14 +246,3 @@ near_index old new insn index g near placed is =
     let same = one_index (arg_place new (entry_of insn.arg)) index n.0 placed there in
     let le : n.0 ≤ 255 = n.2 in
     omega (arith, same, le)
-
--- a body that was decoded is spelled
-pub spelled_of : (pool : List PoolItem) (max_stack max_locals : ℕ) (code : List ℕ) (handlers : List RawHandler) (body : Body) → Decodes pool max_stack max_locals code handlers body → IsSpelled body
-spelled_of pool max_stack max_locals code handlers body d = record {
-  pool = pool;
-  code = code;
-  handlers = handlers;
-  decodes =
-      subst (λ (n : ℕ). Decodes pool n body.max_locals code handlers body) (sym d.stack_is)
-      (subst (λ (n : ℕ). Decodes pool max_stack n code handlers body) (sym d.locals_is) d);
-}

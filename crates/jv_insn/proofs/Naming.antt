@@ -16,7 +16,8 @@ use Rattle.jv_pool.specs.declared.item.PoolItem.{PoolItem}
 use Rattle.jv_pool.specs.declared.item.PoolItem.TheVariants as items
 use Rattle.jv_pool.specs.Lookups.{item_at, class_name_at, class_name_in}
 use Rattle.jv_pool.proofs.Fronts.{some_is}
-use Rattle.jv_insn.specs.Meanings.{IsTypeText, NamesType, NamesClass, texts_at, field_in, method_in, NamesField, NamesMethod, is_two, NamesConst}
+use Rattle.jv_insn.specs.Forms.{is_category_2}
+use Rattle.jv_insn.specs.Meanings.{IsTypeText, NamesType, NamesClass, texts_at, field_in, method_in, NamesField, NamesMethod, NamesConst}
 
 -- what was given twice is one value
 pub given_twice : {A : Type 0} (o : Option A) (x y : A) → o ≡ Some x → o ≡ Some y → x ≡ y
@@ -95,7 +96,7 @@ class_item pool None text e = absurd cc
 class_item pool (Some (items.Class name)) text e = refl
 class_item pool (Some _) text e = absurd cc
 
-const_width : (pool : List PoolItem) (index : ℕ) (const : Const) → NamesConst pool index const → option_map is_two_item (item_at pool index) ≡ Some (is_two const)
+const_width : (pool : List PoolItem) (index : ℕ) (const : Const) → NamesConst pool index const → option_map is_two_item (item_at pool index) ≡ Some (is_category_2 const)
 const_width pool index (consts.Int value) h = rw h refl
 const_width pool index (consts.Float bits) h = rw h refl
 const_width pool index (consts.Long value) h = rw h refl
@@ -106,8 +107,8 @@ const_width pool index consts.Handle h = rw h.2 refl
 const_width pool index consts.MethodKind h = rw h.1 refl
 
 -- constants at one index take as many words
-pub one_width : (pool : List PoolItem) (index : ℕ) (x y : Const) → NamesConst pool index x → NamesConst pool index y → is_two x ≡ is_two y
-one_width pool index x y h k = given_twice (option_map is_two_item (item_at pool index)) (is_two x) (is_two y) (const_width pool index x h) (const_width pool index y k)
+pub one_width : (pool : List PoolItem) (index : ℕ) (x y : Const) → NamesConst pool index x → NamesConst pool index y → is_category_2 x ≡ is_category_2 y
+one_width pool index x y h k = given_twice (option_map is_two_item (item_at pool index)) (is_category_2 x) (is_category_2 y) (const_width pool index x h) (const_width pool index y k)
 
 -- the class of a method that is named
 pub method_class : (pool : List PoolItem) (index : ℕ) (interface : Bool) (class pair : ℕ) (m : MethodRef) → option_and_then method_in (item_at pool index) ≡ Some (interface, class, pair) → NamesMethod pool index m → NamesType pool class m.class

@@ -14,7 +14,8 @@ use Rattle.jv_pool.specs.declared.item.PoolItem.{PoolItem}
 use Rattle.jv_insn.specs.declared.fault.Fault.{Fault}
 use Rattle.jv_insn.specs.declared.fault.Fault.TheVariants as faults
 use Rattle.jv_insn.specs.Finding.{NoneFor}
-use Rattle.jv_insn.specs.Meanings.{NamesType, NamesMethod, NamesConst, is_two, FitsOp, MayCall, IsCalled, NamesArg, NamesCalled, NamesMulti, NamesOperands, IsInsn, has_local}
+use Rattle.jv_insn.specs.Forms.{is_category_2}
+use Rattle.jv_insn.specs.Meanings.{NamesType, NamesMethod, NamesConst, FitsOp, MayCall, IsCalled, NamesArg, NamesCalled, NamesMulti, NamesOperands, IsInsn, has_local}
 use Rattle.jv_table.specs.CodeRows.{OpForm}
 use Rattle.jv_types.specs.declared.instruction.Insn.{Insn}
 use Rattle.jv_insn.specs.declared.written.Written.{Written}
@@ -51,7 +52,7 @@ method_refused pool op index method names none x h = none (subst (λ (m : Method
 pub called_refused : (pool : List PoolItem) (index words last : ℕ) (method : MethodRef) → NamesMethod pool index method → (IsCalled words last method → ⊥) → (x : Arg) → NamesCalled pool index words last x → ⊥
 called_refused pool index words last method names none x h = none (subst (λ (m : MethodRef). IsCalled words last m) (one_method_ref pool index h.0 method h.2 names) h.3)
 
-pub const_refused : (pool : List PoolItem) (index : ℕ) (two : Bool) (const : Const) → NamesConst pool index const → (is_two const ≡ two → ⊥) → (x : Const) → NamesConst pool index x × (is_two x ≡ two) → ⊥
+pub const_refused : (pool : List PoolItem) (index : ℕ) (two : Bool) (const : Const) → NamesConst pool index const → (is_category_2 const ≡ two → ⊥) → (x : Const) → NamesConst pool index x × (is_category_2 x ≡ two) → ⊥
 const_refused pool index two const names none x h = none (one_width pool index const x names h.0 ∙ h.1)
 
 -- the local variable of an instruction is too high

@@ -80,7 +80,7 @@ zip_on P Q [] (y ∷ ys) on h = absurd h
 zip_on P Q (x ∷ xs) [] on h = absurd h
 zip_on P Q (x ∷ xs) (y ∷ ys) on h = (on x y h.0, zip_on P Q xs ys on h.1)
 
-zip_length : {A B : Type 0} (P : A → B → Type 0) (xs : List A) (ys : List B) → AllZip P xs ys → length ys ≡ length xs
+pub zip_length : {A B : Type 0} (P : A → B → Type 0) (xs : List A) (ys : List B) → AllZip P xs ys → length ys ≡ length xs
 zip_length P [] [] h = refl
 zip_length P [] (y ∷ ys) h = absurd h
 zip_length P (x ∷ xs) [] h = absurd h

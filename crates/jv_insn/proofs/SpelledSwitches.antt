@@ -6,8 +6,8 @@ use Rattle.std.specs.List.{flat_map}
 use Rattle.jv_bytes.specs.Numbers.{number_text}
 use Rattle.jv_pool.specs.Reading.{◌>>=◌, bytes_at}
 use Rattle.jv_pool.proofs.Fronts.{bind_some, bind_is, given_as, joined, bytes_take, bytes_again}
-use Rattle.jv_attr.specs.Reading.{many_at}
-use Rattle.jv_attr.proofs.Many.{many_take, many_again}
+use Rattle.jv_insn.specs.Reading.{many_at}
+use Rattle.jv_insn.proofs.Many.{many_take, many_again}
 use Rattle.jv_insn.specs.declared.written.Operands.{Operands}
 use Rattle.jv_insn.specs.declared.written.Operands.TheVariants.{Table, Lookup}
 use Rattle.jv_insn.specs.Layouts.{s4_text, pair_text, IsPair, padding_at, IsTable, IsLookup}

@@ -1,5 +1,7 @@
 -- What the rows of the tables of opcodes and of newarray tell of their keys.
-use Rattle.std.proofs.Common.{◌≡◌, ℕ, Bool, true, false, not, ◌||◌, cond, eqb, List, [], ◌∷◌, Some, refl, sym, ap, ◌∙◌}
+use Rattle.std.proofs.Common.{◌≡◌, ℕ, Bool, true, false, not, ◌||◌, ◌&&◌, cond, eqb, List, [], ◌∷◌, Option, Some, None, refl, sym, ap, ◌∙◌}
+use Rattle.std.specs.Prelude.{is_none}
+use Rattle.jv_table.specs.declared.code_tables.Cell.{Cell}
 use Rattle.std.proofs.lemmas.Bool.{and_parts, eqb-true}
 use Rattle.std.proofs.lemmas.Map.Lookups.{exact_unsigned}
 use Rattle.std.specs.List.{list_all}
@@ -14,7 +16,10 @@ use Rattle.jv_types.specs.declared.desc.PrimType.{PrimType}
 use Rattle.jv_types.specs.declared.desc.PrimType.TheVariants.{Boolean, Char, Float, Double, Byte, Short, Int, Long}
 use Rattle.jv_desc.specs.Texts.{prim_letter}
 use Rattle.jv_pool.proofs.Fronts.{some_is}
-use Rattle.jv_insn.specs.Effects.{op_row}
+use Rattle.jv_types.specs.declared.instruction.Arg.{Arg}
+use Rattle.jv_types.specs.declared.instruction.Arg.TheVariants as args
+use Rattle.jv_insn.specs.Effects.{Shuffle, op_row, row_takes, row_gives, cells_taken, cells_given, decides_cells, shuffle_of}
+use Rattle.jv_insn.specs.Forms.{HasOperands}
 use Rattle.jv_insn.specs.Encoding.{atype_of}
 
 is_equal : (o : Ordering) → is_eq o ≡ true → o ≡ Equal
@@ -23,7 +28,7 @@ is_equal Less e = absurd cc
 is_equal Greater e = absurd cc
 
 -- a test that each row passes is passed by the row of a key
-row_passes : {R : Type 0} (test : ℕ × R → Bool) (rows : List (ℕ × R)) (key : ℕ) (row : R) → list_all test rows ≡ true → row_of nat_cmp key rows ≡ Some row → test (key, row) ≡ true
+pub row_passes : {R : Type 0} (test : ℕ × R → Bool) (rows : List (ℕ × R)) (key : ℕ) (row : R) → list_all test rows ≡ true → row_of nat_cmp key rows ≡ Some row → test (key, row) ≡ true
 row_passes {R} test [] key row all e = absurd cc
 row_passes {R} test (first ∷ rows) key row all e =
     let parts = and_parts (test first) (list_all test rows) all in
@@ -94,3 +99,88 @@ one_code code prim e =
     by : (b : Bool) → b ≡ true → (not b || eqb code (atype_of prim)) ≡ true → eqb code (atype_of prim) ≡ true
     by true t h = h
     by false t h = absurd cc
+
+-- ---- cells
+
+-- where operands don't decide the cells, those of an instruction are those of its row
+taken_by : (form : Form) (op : ℕ) (arg : Arg) (row : OpForm) → op_row op ≡ Some row → HasOperands form arg → decides_cells form ≡ false → cells_taken op arg ≡ row.takes
+taken_by forms.Nothing op arg row e h d = ap (cells_taken op) h ∙ ap row_takes e
+taken_by forms.Local op arg row e h d = ap (cells_taken op) h.1 ∙ ap row_takes e
+taken_by forms.Small1 op arg row e h d = ap (cells_taken op) h.1 ∙ ap row_takes e
+taken_by forms.Small2 op arg row e h d = ap (cells_taken op) h.1 ∙ ap row_takes e
+taken_by forms.Inc op arg row e h d = ap (cells_taken op) h.2 ∙ ap row_takes e
+taken_by forms.Class op arg row e h d = ap (cells_taken op) h.1 ∙ ap row_takes e
+taken_by forms.Dynamic op arg row e h d = ap (cells_taken op) h ∙ ap row_takes e
+taken_by forms.NewPrim op arg row e h d = ap (cells_taken op) h.1 ∙ ap row_takes e
+taken_by forms.Jump2 op arg row e h d = ap (cells_taken op) h.1 ∙ ap row_takes e
+taken_by forms.Jump4 op arg row e h d = ap (cells_taken op) h.1 ∙ ap row_takes e
+taken_by forms.TableSwitch op arg row e h d = ap (cells_taken op) h.3 ∙ ap row_takes e
+taken_by forms.LookupSwitch op arg row e h d = ap (cells_taken op) h.2 ∙ ap row_takes e
+taken_by forms.Wide op arg row e h d = absurd h
+taken_by _ op arg row e h d = absurd cc
+
+pub row_cells_taken : (op : ℕ) (arg : Arg) (row : OpForm) → op_row op ≡ Some row → HasOperands row.form arg → decides_cells row.form ≡ false → cells_taken op arg ≡ row.takes
+row_cells_taken op arg row e h d = taken_by row.form op arg row e h d
+
+given_by : (form : Form) (op : ℕ) (arg : Arg) (row : OpForm) → op_row op ≡ Some row → HasOperands form arg → decides_cells form ≡ false → cells_given op arg ≡ row.gives
+given_by forms.Nothing op arg row e h d = ap (cells_given op) h ∙ ap row_gives e
+given_by forms.Local op arg row e h d = ap (cells_given op) h.1 ∙ ap row_gives e
+given_by forms.Small1 op arg row e h d = ap (cells_given op) h.1 ∙ ap row_gives e
+given_by forms.Small2 op arg row e h d = ap (cells_given op) h.1 ∙ ap row_gives e
+given_by forms.Inc op arg row e h d = ap (cells_given op) h.2 ∙ ap row_gives e
+given_by forms.Class op arg row e h d = ap (cells_given op) h.1 ∙ ap row_gives e
+given_by forms.Dynamic op arg row e h d = ap (cells_given op) h ∙ ap row_gives e
+given_by forms.NewPrim op arg row e h d = ap (cells_given op) h.1 ∙ ap row_gives e
+given_by forms.Jump2 op arg row e h d = ap (cells_given op) h.1 ∙ ap row_gives e
+given_by forms.Jump4 op arg row e h d = ap (cells_given op) h.1 ∙ ap row_gives e
+given_by forms.TableSwitch op arg row e h d = ap (cells_given op) h.3 ∙ ap row_gives e
+given_by forms.LookupSwitch op arg row e h d = ap (cells_given op) h.2 ∙ ap row_gives e
+given_by forms.Wide op arg row e h d = absurd h
+given_by _ op arg row e h d = absurd cc
+
+pub row_cells_given : (op : ℕ) (arg : Arg) (row : OpForm) → op_row op ≡ Some row → HasOperands row.form arg → decides_cells row.form ≡ false → cells_given op arg ≡ row.gives
+row_cells_given op arg row e h d = given_by row.form op arg row e h d
+
+abbrev are_none : List Cell → Bool
+are_none [] = true
+are_none (cell ∷ cells) = false
+
+none_are : (cells : List Cell) → are_none cells ≡ true → cells ≡ []
+none_are [] e = refl
+none_are (cell ∷ cells) e = absurd cc
+
+abbrev has_no_cells : OpForm → Bool
+has_no_cells row = are_none row.takes && are_none row.gives
+
+no_cells_are : (row : OpForm) → has_no_cells row ≡ true → (row.takes ≡ []) × (row.gives ≡ [])
+no_cells_are row e = let p = and_parts (are_none row.takes) (are_none row.gives) e in (none_are row.takes p.0, none_are row.gives p.1)
+
+abbrev leaves_to_operands : ℕ × OpForm → Bool
+leaves_to_operands row = not (decides_cells row.1.form) || has_no_cells row.1
+
+each_leaves : list_all leaves_to_operands opcode_rows ≡ true
+unfolding opcode_rows
+each_leaves = refl
+
+where_true : (b c : Bool) → b ≡ true → (not b || c) ≡ true → c ≡ true
+where_true true c t h = h
+where_true false c t h = absurd cc
+
+pub operands_rows : (op : ℕ) (row : OpForm) → op_row op ≡ Some row → decides_cells row.form ≡ true → (row.takes ≡ []) × (row.gives ≡ [])
+operands_rows op row e d =
+    no_cells_are row (where_true (decides_cells row.form) (has_no_cells row) d (row_passes leaves_to_operands opcode_rows op row each_leaves e))
+
+abbrev moves_or_has : ℕ × OpForm → Bool
+moves_or_has row = is_none (shuffle_of row.0) || has_no_cells row.1
+
+each_moves : list_all moves_or_has opcode_rows ≡ true
+unfolding opcode_rows
+each_moves = refl
+
+some_moves : (o : Option Shuffle) (shuffle : Shuffle) (b : Bool) → o ≡ Some shuffle → (is_none o || b) ≡ true → b ≡ true
+some_moves None shuffle b e h = absurd cc
+some_moves (Some s) shuffle b e h = h
+
+pub moves_rows : (op : ℕ) (row : OpForm) (shuffle : Shuffle) → op_row op ≡ Some row → shuffle_of op ≡ Some shuffle → (row.takes ≡ []) × (row.gives ≡ [])
+moves_rows op row shuffle e s =
+    no_cells_are row (some_moves (shuffle_of op) shuffle (has_no_cells row) s (row_passes moves_or_has opcode_rows op row each_moves e))

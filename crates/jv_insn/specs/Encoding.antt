@@ -1,11 +1,13 @@
 -- The code of a body over a constant pool, and which bodies are encoded (JVMS 4.7.3, 6.5).
-use Rattle.std.specs.Prelude.{◌≡◌, ◌≤◌, ◌+◌, ℕ, ℤ, pos, ◌+ℤ◌, ◌-ℤ◌, Bool, true, false, IsTrue, not, ◌==◌, if◌then◌else◌, List, [], ◌++◌, length, replicate, IsSomeAnd, unwrap_or}
+use Rattle.std.specs.Prelude.{◌≡◌, ◌<◌, ◌≤◌, ◌+◌, ◌*◌, ◌⊎◌, ℕ, ℤ, pos, ◌+ℤ◌, ◌-ℤ◌, Bool, true, false, IsTrue, not, ◌==◌, if◌then◌else◌, List, [], ◌∷◌, ◌++◌, length, replicate, IsSomeAnd, unwrap_or}
 use Rattle.std.specs.Int.{w8, w16, cast_unsigned}
 use Rattle.std.specs.List.{flat_map, AllZip, AllByRecursion}
 use Rattle.std.specs.Option.{option_map_or}
 use Rattle.jv_bytes.specs.Numbers.{number_text}
 use Rattle.jv_table.specs.CodeRows.{OpForm}
 use Rattle.jv_table.specs.declared.code_tables.Form.{Form}
+use Rattle.jv_table.specs.declared.ops.TheConstants.{LDC}
+use Rattle.jv_table.specs.declared.atypes.TheConstants.{T_BOOLEAN, T_CHAR, T_FLOAT, T_DOUBLE, T_BYTE, T_SHORT, T_INT, T_LONG}
 use Rattle.jv_table.specs.declared.code_tables.Form.TheVariants as forms
 use Rattle.jv_types.specs.declared.raw_handler.RawHandler.{RawHandler}
 use Rattle.jv_types.specs.declared.desc.PrimType.{PrimType}
@@ -17,10 +19,13 @@ use Rattle.jv_types.specs.declared.instruction.Arg.TheVariants as args
 use Rattle.jv_types.specs.declared.instruction.Insn.{Insn}
 use Rattle.jv_types.specs.declared.body.Handler.{Handler}
 use Rattle.jv_types.specs.declared.body.Body.{Body}
+use Rattle.jv_types.specs.Bodies.{IsStart}
 use Rattle.jv_desc.specs.Texts.{words_of}
 use Rattle.jv_pool.specs.declared.item.PoolItem.{PoolItem}
 use Rattle.jv_insn.specs.Effects.{op_row}
-use Rattle.jv_insn.specs.Layouts.{s4_text, padding_at, head_text}
+use Rattle.jv_insn.specs.declared.written.Written.{Written}
+use Rattle.jv_insn.specs.Layouts.{s4_text, padding_at, head_text, IsInsnText}
+use Rattle.jv_insn.specs.Meanings.{IsInsn}
 use Rattle.jv_insn.specs.Decoding.{Catches, Decodes}
 use Rattle.jv_insn.specs.Entries.{entry_of, arg_place, Grows}
 
@@ -53,14 +58,14 @@ behind_method _ method = []
 
 -- the code of a primitive type in newarray (JVMS table 6.5.newarray-A)
 abbrev pub atype_of : PrimType → ℕ
-atype_of Boolean = 4
-atype_of Char = 5
-atype_of Float = 6
-atype_of Double = 7
-atype_of Byte = 8
-atype_of Short = 9
-atype_of Int = 10
-atype_of Long = 11
+atype_of Boolean = T_BOOLEAN
+atype_of Char = T_CHAR
+atype_of Float = T_FLOAT
+atype_of Double = T_DOUBLE
+atype_of Byte = T_BYTE
+atype_of Short = T_SHORT
+atype_of Int = T_INT
+atype_of Long = T_LONG
 
 -- the offset of a target from an instruction
 abbrev pub branch_offset : ℕ → ℕ → ℤ
@@ -122,6 +127,42 @@ insn_text pool pc insn = head_text insn.wide insn.op ++ arg_text (form_of insn.o
 abbrev pub code_text : List PoolItem → List (ℕ × Insn) → List ℕ
 code_text pool insns = flat_map (λ (row : ℕ × Insn). insn_text pool row.0 row.1) insns
 
+-- ---- how long it is
+
+-- a number takes one byte, or two
+abbrev pub number_size : Bool → ℕ
+number_size narrow = if narrow then 1 else 2
+
+-- what stands behind the index of a method takes two bytes, in an invokeinterface
+abbrev pub method_size : Form → ℕ
+method_size forms.InterfaceMethod = 4
+method_size _ = 2
+
+abbrev pub jump_size : Form → ℕ
+jump_size forms.Jump4 = 4
+jump_size _ = 2
+
+-- how many bytes the operands of an instruction of a form take, under wide or not, at an offset of the code
+abbrev pub arg_size : Form → Bool → ℕ → Arg → ℕ
+arg_size form wide pc (args.Local local) = number_size (is_narrow form wide)
+arg_size form wide pc (args.Small value) = number_size (is_narrow form wide)
+arg_size form wide pc (args.Inc local by) = number_size (is_narrow form wide) + number_size (is_narrow form wide)
+arg_size form wide pc (args.Constant constant) = number_size (is_narrow form wide)
+arg_size form wide pc (args.Class type) = 2
+arg_size form wide pc (args.Field field) = 2
+arg_size form wide pc (args.Method method) = method_size form
+arg_size form wide pc (args.NewPrim prim) = 1
+arg_size form wide pc (args.Multi type dims) = 3
+arg_size form wide pc (args.Jump target) = jump_size form
+arg_size form wide pc (args.Table default low targets) = padding_at (pc + 1) + (12 + 4 * length targets)
+arg_size form wide pc (args.Lookup default cases) = padding_at (pc + 1) + (8 + 8 * length cases)
+arg_size form wide pc args.Nothing = 0
+arg_size form wide pc args.Dynamic = 4
+
+-- how many bytes an instruction takes at an offset of the code (JVMS 6.5), over any pool
+abbrev pub insn_size : ℕ → Insn → ℕ
+insn_size pc insn = length (head_text insn.wide insn.op) + arg_size (form_of insn.op) insn.wide pc insn.arg
+
 -- ---- which bodies are encoded
 
 -- some code spells the body over some pool
@@ -158,11 +199,39 @@ is_left_out (args.Lookup default cases) = false
 
 -- the constant of an ldc stands at an index of one byte
 abbrev pub StandsNear : List PoolItem → Insn → Type 0
-StandsNear pool insn = IsTrue (insn.op == 18) → IsSomeAnd (arg_place pool (entry_of insn.arg)) (λ index. index ≤ 255)
+StandsNear pool insn = IsTrue (insn.op == LDC) → IsSomeAnd (arg_place pool (entry_of insn.arg)) (λ index. index ≤ 255)
 
--- the body may be encoded over a pool
+-- some bytes over some pool spell this instruction at an offset, in a code whose instructions start where these
+-- do and that has so many local variables
+pub record MayStand (max_locals : ℕ) (insns : List (ℕ × Insn)) (pc : ℕ) (insn : Insn) : Type 0 where
+  pub pool : List PoolItem
+  pub rows : List (ℕ × Written)
+  pub starts : (start : ℕ) → IsStart rows start → IsStart insns start
+  pub written : Written
+  pub text : List ℕ
+  pub is_insn : IsInsn pool max_locals rows pc written insn
+  pub is_text : IsInsnText pc text written
+
+-- instructions stand one behind the other, from an offset to the end
+abbrev pub AreLaid : ℕ → List (ℕ × Insn) → ℕ → Type 0
+AreLaid pc [] end = pc ≡ end
+AreLaid pc (row ∷ rows) end = (row.0 ≡ pc) × AreLaid (pc + insn_size pc row.1) rows end
+
+-- a handler of a code of this length covers something, its bounds and its target are instructions, but that it
+-- may end behind the code
+pub record HasPlaces (insns : List (ℕ × Insn)) (length : ℕ) (handler : Handler) : Type 0 where
+  pub covers : handler.start < handler.end
+  pub starts : IsStart insns handler.start
+  pub ends : IsStart insns handler.end ⊎ (handler.end ≡ length)
+  pub leads : IsStart insns handler.target
+
+-- The body may be encoded over a pool: its instructions fill its length, each of them and each handler may stand
+-- there, no part of their operands is left out, and the constant of each ldc stands near. A body that some code
+-- spells has all of this but the last two.
 pub record MayEncode (pool : List PoolItem) (body : Body) : Type 0 where
-  pub spelled : IsSpelled body
+  pub laid : AreLaid 0 body.insns body.length
+  pub each : AllByRecursion (λ (row : ℕ × Insn). MayStand body.max_locals body.insns row.0 row.1) body.insns
+  pub handlers : AllByRecursion (HasPlaces body.insns body.length) body.handlers
   pub whole : AllByRecursion (λ (row : ℕ × Insn). is_left_out row.1.arg ≡ false) body.insns
   pub near : AllByRecursion (λ (row : ℕ × Insn). StandsNear pool row.1) body.insns
 

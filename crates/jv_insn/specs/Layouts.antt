@@ -9,6 +9,7 @@ use Rattle.jv_bytes.specs.Numbers.{number_text}
 use Rattle.jv_table.specs.Rows.{row_of}
 use Rattle.jv_table.specs.CodeRows.{OpForm, newarray_rows}
 use Rattle.jv_table.specs.declared.code_tables.Form.{Form}
+use Rattle.jv_table.specs.declared.ops.TheConstants.{RET, WIDE}
 use Rattle.jv_table.specs.declared.code_tables.Form.TheVariants as forms
 use Rattle.jv_insn.specs.declared.written.Operands.{Operands}
 use Rattle.jv_insn.specs.declared.written.Operands.TheVariants.{Nothing, Local, Small, Inc, Index, Called, Site, NewPrim, Multi, Jump, Table, Lookup}
@@ -61,7 +62,7 @@ layout_of forms.Wide = None
 
 -- the same under wide: loads, stores and iinc, but not ret
 abbrev pub wide_layout_of : ℕ → Form → Option Layout
-wide_layout_of op forms.Local = if op == 169 then None else Some (One 2 Local)
+wide_layout_of op forms.Local = if op == RET then None else Some (One 2 Local)
 wide_layout_of op forms.Inc = Some (Two 2 2 (λ local by. Inc local (s2 by)))
 wide_layout_of op _ = None
 
@@ -177,7 +178,7 @@ is_allowed _ = true
 
 -- the opcode of wide
 abbrev pub wide_op : ℕ
-wide_op = 196
+wide_op = WIDE
 
 -- what stands before the operands
 abbrev pub head_text : Bool → ℕ → List ℕ

@@ -55,22 +55,19 @@ abbrev pub source_of_local : Insn → ℕ → ℕ → Option Place
 source_of_local insn below local =
     if is_written insn local then (if is_store insn.op then Some (AtStack (below + (local - local_of insn.op insn.arg))) else None) else Some (AtLocal local)
 
--- Of a word of the stack that stands so far above those that the instruction doesn't touch: a load leaves the
--- local variables there that it reads, and one of the nine instructions that move words the words that it
--- takes. All others give theirs anew, checkcast too.
-abbrev pub source_of_top : Insn → ℕ → ℕ → Option Place
-source_of_top insn below above = by_shuffle (shuffle_of insn.op)
-  where
-    by_shuffle : Option Shuffle → Option Place
-    by_shuffle None = if is_load insn.op && nat_lt above (words_given insn) then Some (AtLocal (local_of insn.op insn.arg + above)) else None
-    by_shuffle (Some shuffle) = option_map (λ (from : ℕ). AtStack (below + from)) (slice_get shuffle.order above)
+-- Of a word of the stack that stands so far above those that the instruction doesn't touch, by how it moves
+-- words: a load leaves the local variables there that it reads, and one of the nine instructions that move
+-- words those that it takes. All others give theirs anew, checkcast too.
+abbrev pub source_of_top : Option Shuffle → Insn → ℕ → ℕ → Option Place
+source_of_top None insn below above = if is_load insn.op && nat_lt above (words_given insn) then Some (AtLocal (local_of insn.op insn.arg + above)) else None
+source_of_top (Some shuffle) insn below above = option_map (λ (from : ℕ). AtStack (below + from)) (slice_get shuffle.order above)
 
 -- the place, before an instruction, of the word that it leaves at a place, where the stack before it has this
 -- depth. Where there is none, the word is given anew, or there is no such word.
 abbrev pub source_of : Insn → ℕ → Place → Option Place
 source_of insn depth (AtLocal local) = source_of_local insn (words_below insn depth) local
 source_of insn depth (AtStack place) =
-    if nat_lt place (words_below insn depth) then Some (AtStack place) else source_of_top insn (words_below insn depth) (place - words_below insn depth)
+    if nat_lt place (words_below insn depth) then Some (AtStack place) else source_of_top (shuffle_of insn.op) insn (words_below insn depth) (place - words_below insn depth)
 
 -- an instruction leaves the word at the one place at the other: before the next instruction and before each
 -- target. A handler finds the local variables as they were before the instruction, and none of its stack.

@@ -1,10 +1,12 @@
 pub mod Borrowed
+pub mod Building
 pub mod Decoding
 pub mod Effects
 pub mod Encoding
 pub mod Entries
 pub mod Finding
 pub mod Forms
+pub mod Kept
 pub mod KindSafe
 pub mod Kinds
 pub mod Layouts

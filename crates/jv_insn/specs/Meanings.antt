@@ -6,6 +6,7 @@ use Rattle.std.specs.Ordering.{nat_cmp}
 use Rattle.jv_table.specs.Rows.{row_of}
 use Rattle.jv_table.specs.CodeRows.{OpForm, newarray_rows}
 use Rattle.jv_table.specs.declared.code_tables.Form.{Form}
+use Rattle.jv_table.specs.declared.ops.TheConstants.{IINC, RET, INVOKEVIRTUAL, NEW, ANEWARRAY}
 use Rattle.jv_table.specs.declared.code_tables.Form.TheVariants as forms
 use Rattle.jv_types.specs.NameForms.{is_class_name}
 use Rattle.jv_types.specs.declared.desc.PrimType.{PrimType}
@@ -90,7 +91,7 @@ pub record NamesMethod (pool : List PoolItem) (index : ℕ) (method : MethodRef)
 
 -- ---- constants
 
--- the constant takes two words
+-- the constant takes two words: is_category_2
 abbrev pub is_two : Const → Bool
 is_two constant = is_category_2 constant
 
@@ -122,11 +123,11 @@ pub record LeadsCase {I : Type 0} (rows : List (ℕ × I)) (pc : ℕ) (read : �
 -- a `new` names no array, and the type of an anewarray has at most 254 dimensions, so that its arrays have
 -- at most 255 (JVMS 4.9.1)
 abbrev pub FitsOp : ℕ → RefType → Type 0
-FitsOp op type = (IsTrue (op == 187) → ref_dims type ≡ 0) × (IsTrue (op == 189) → ref_dims type ≤ 254)
+FitsOp op type = (IsTrue (op == NEW) → ref_dims type ≡ 0) × (IsTrue (op == ANEWARRAY) → ref_dims type ≤ 254)
 
 -- an invokevirtual names no method of an interface
 abbrev pub MayCall : ℕ → MethodRef → Type 0
-MayCall op method = IsTrue (op == 182) → method.interface ≡ false
+MayCall op method = IsTrue (op == INVOKEVIRTUAL) → method.interface ≡ false
 
 -- an invokeinterface names a method of an interface, and the two bytes behind its index are the words of the
 -- arguments with the receiver, and 0
@@ -137,7 +138,7 @@ pub record IsCalled (words last : ℕ) (method : MethodRef) : Type 0 where
 
 -- what the index of a load names, a constant of one word or of two
 abbrev pub NamesLoad : List PoolItem → ℕ → Bool → Arg → Type 0
-NamesLoad pool index two arg = (const : Const) × (arg ≡ args.Constant const) × NamesConst pool index const × (is_two const ≡ two)
+NamesLoad pool index two arg = (const : Const) × (arg ≡ args.Constant const) × NamesConst pool index const × (is_category_2 const ≡ two)
 
 -- what an index of the pool names by the form of the opcode
 abbrev pub NamesArg : Form → List PoolItem → ℕ → ℕ → Arg → Type 0
@@ -198,7 +199,7 @@ NamesOperands pool rows pc op form (Lookup default cases) arg = NamesLookup rows
 
 -- the instruction names a local variable: a load, a store, an iinc or a ret
 abbrev pub has_local : ℕ → Bool
-has_local op = is_load op || (is_store op || (op == 132 || op == 169))
+has_local op = is_load op || (is_store op || (op == IINC || op == RET))
 
 -- what an instruction that is written is, among the rows of its code, with so many local variables
 pub record IsInsn {I : Type 0} (pool : List PoolItem) (max_locals : ℕ) (rows : List (ℕ × I)) (pc : ℕ) (written : Written) (insn : Insn) : Type 0 where

@@ -1,8 +1,7 @@
 -- Reading an instruction from the front of a list of bytes, part by part. Readers are proved to give what
 -- these functions give; laws of lists join the functions with the texts of Layouts.
-use Rattle.std.specs.Prelude.{◌≡◌, ◌+◌, ℕ, ℤ, Bool, true, false, if◌then◌else◌, ◌==◌, nat_lt, int_le, List, Option, Some, None, Result, Ok, Err}
+use Rattle.std.specs.Prelude.{◌≡◌, ◌+◌, ℕ, zero, suc, ℤ, Bool, true, false, if◌then◌else◌, ◌==◌, nat_lt, int_le, List, [], ◌∷◌, Option, Some, None, Result, Ok, Err}
 use Rattle.jv_pool.specs.Reading.{◌>>=◌, u1_at, number_at, bytes_at}
-use Rattle.jv_attr.specs.Reading.{many_at}
 use Rattle.jv_insn.specs.declared.fault.Fault.{Fault}
 use Rattle.jv_insn.specs.declared.fault.Fault.TheVariants as faults
 use Rattle.jv_insn.specs.declared.written.Operands.{Operands}
@@ -41,6 +40,14 @@ three_at m n k make bytes = do
   Some (make first.0 second.0 third.0, third.1)
 
 -- ---- switches
+
+-- as many parts, one after the other
+unfoldable pub many_at : {A : Type 0} → (List ℕ → Option (A × List ℕ)) → ℕ → List ℕ → Option (List A × List ℕ)
+many_at one zero bytes = Some ([], bytes)
+many_at one (suc n) bytes = do
+  first ← one bytes
+  others ← many_at one n first.1
+  Some (first.0 ∷ others.0, others.1)
 
 -- a signed number of four bytes
 unfoldable pub s4_at : List ℕ → Option (ℤ × List ℕ)

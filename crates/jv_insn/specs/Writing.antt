@@ -22,6 +22,7 @@ use Rattle.jv_insn.specs.Encoding.{is_narrow, branch_offset, is_left_out, Stands
 abbrev pub PutFails : {Y : Type 0} → EncodeRefusal → Option Y → Type 0
 PutFails refusals.Memory put = Unit {0}
 PutFails refusals.PoolFull put = put ≡ None
+PutFails refusals.TooLong put = ⊥
 
 abbrev pub Puts : Result ℕ EncodeRefusal → List PoolItem → Option (ℕ × List PoolItem) → Type 0
 Puts (Ok index) new put = put ≡ Some (index, new)

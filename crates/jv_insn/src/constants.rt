@@ -1,5 +1,6 @@
 ghost use Rattle.std.specs.Prelude.{◌≡◌};
-ghost use Rattle.jv_insn.specs.Meanings.{NamesConst, is_two};
+ghost use Rattle.jv_insn.specs.Forms.{is_category_2};
+ghost use Rattle.jv_insn.specs.Meanings.{NamesConst};
 ghost use Rattle.jv_insn.specs.Finding.{Finds};
 
 use crate::classes::type_at;
@@ -28,20 +29,20 @@ fn any_const_at(alloc: Global, pool: &Pool, index: u16) -> Result<Const, Fault>
     }
 }
 
-/// Whether a constant takes two words.
-fn is_two(constant: &Const) -> bool
-    ensures { result ≡ is_two constant.now }
+/// Whether a constant is of category 2 (JVMS 2.11.1).
+fn is_category_2(constant: &Const) -> bool
+    ensures { result ≡ is_category_2 constant.now }
 {
     matches!(constant, Const::Long(_) | Const::Double(_))
 }
 
-/// The constant that an index of the pool names, where it takes two words, or where it takes one.
-pub fn const_at(alloc: Global, pool: &Pool, index: u16, two: bool) -> Result<Const, Fault>
-    ensures { Finds (λ const. NamesConst pool.now index const × (is_two const ≡ two)) result }
+/// The constant that an index of the pool names, where it is of category 2, or where it isn't.
+pub fn const_at(alloc: Global, pool: &Pool, index: u16, category_2: bool) -> Result<Const, Fault>
+    ensures { Finds (λ const. NamesConst pool.now index const × (is_category_2 const ≡ category_2)) result }
 {
     match any_const_at(alloc, pool, index) {
         Ok(constant) => {
-            if is_two(&constant) == two {
+            if is_category_2(&constant) == category_2 {
                 Ok(constant)
             } else {
                 Err(Fault::Bad)

@@ -13,7 +13,7 @@ use jv_types::{Body, Insn};
 use std::alloc::Global;
 
 /// The form of an opcode. One that has no row has no operands.
-fn form_of(op: u8) -> Form
+pub fn form_of(op: u8) -> Form
     ensures { result ≡ form_of op }
 {
     match opcode(op) {
@@ -35,6 +35,7 @@ fn put_insn(
     ensures small { OnOk result (index_in pool.new insn.now.arg < 65536) }
     ensures text { OnOk result (writer.new ≡ writer.old ++ insn_text pool.new pc insn.now) }
     ensures full { result ≡ Err EncodeRefusal.PoolFull → put_named (entry_of insn.now.arg) pool.old ≡ None }
+    ensures never_long { result ≡ Err EncodeRefusal.TooLong → ⊥ }
     ensures grown { Grows pool.old pool.new }
 {
     let index = index_of(alloc, pool, &insn.arg)?;
@@ -47,7 +48,8 @@ fn put_insn(
 /// Some code spells the body over some pool, no part of its operands is left out, and the constant of each
 /// ldc stands in the pool at an index of one byte. With each exception table that names the body's handlers the
 /// code decodes to the same body, over the pool and whatever that grows to. It is refused `PoolFull` exactly
-/// where an item finds no room; then, and where memory is wanting, the pool has at most grown.
+/// where an item finds no room, and never `TooLong`. After a refusal, and where memory is wanting, the pool has
+/// at most grown.
 pub fn encode(alloc: Global, body: &Body, pool: &mut PoolWriter) -> Result<Vec<u8>, EncodeRefusal>
     requires { MayEncode pool.old body.now }
     ensures decodes { IfOk result (λ code. DecodesTo pool.new code.items body.now) }
@@ -55,6 +57,7 @@ pub fn encode(alloc: Global, body: &Body, pool: &mut PoolWriter) -> Result<Vec<u
     ensures length { IfOk result (λ code. length code.items ≡ body.now.length) }
     ensures added { OnOk result (put_all body.now.insns pool.old ≡ Some pool.new) }
     ensures full { result ≡ Err EncodeRefusal.PoolFull → put_all body.now.insns pool.old ≡ None }
+    ensures never_long { result ≡ Err EncodeRefusal.TooLong → ⊥ }
     ensures grown { Grows pool.old pool.new }
 {
     let mut writer = Writer::new(alloc);

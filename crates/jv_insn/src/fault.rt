@@ -40,6 +40,10 @@ pub enum EncodeRefusal {
     /// The greatest index of the constant pool would pass 65534.
     #[error("the constant pool is full")]
     PoolFull,
+    /// The code would have more than 65535 bytes (JVMS 4.7.3). This is for whoever builds code: `encode` never
+    /// answers it, since a body isn't longer.
+    #[error("the code is too long")]
+    TooLong,
     /// Memory is wanting.
     #[error("out of memory")]
     Memory,

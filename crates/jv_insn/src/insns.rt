@@ -5,44 +5,19 @@ ghost use Rattle.jv_insn.specs.Rows.{AreRows, AreInsns};
 ghost use Rattle.jv_insn.specs.Finding.{Finds};
 
 use crate::fault::Fault;
+use crate::locals::{is_load, is_store, local_of};
 use crate::operands::arg_of;
 use crate::written::Written;
 use jv_pool::Pool;
-use jv_table::opcode;
+use jv_table::{opcode, ops};
 use jv_types::{Arg, Insn};
 use std::alloc::{AllocError, Global};
-
-/// The last opcode that loads a local variable.
-const LAST_LOAD: u8 = 45;
-
-/// The first opcodes that load and store the local variable 0 without an operand.
-const FIRST_LOAD: u8 = 26;
-
-const FIRST_STORE: u8 = 59;
 
 /// Whether an instruction names a local variable.
 fn has_local(op: u8) -> bool
     ensures { result ≡ has_local op }
 {
-    matches!(op, 21..=LAST_LOAD | 54..=78 | 132 | 169)
-}
-
-/// The local variable that an instruction names.
-fn local_of(op: u8, arg: &Arg) -> u16
-    ensures { result ≡ local_of op arg.now }
-{
-    match arg {
-        Arg::Local(local) => *local,
-        Arg::Inc(local, _) => *local,
-        _ => {
-            let first = if op <= LAST_LOAD {
-                FIRST_LOAD
-            } else {
-                FIRST_STORE
-            };
-            u16::from(op.saturating_sub(first) % 4)
-        }
-    }
+    is_load(op) || is_store(op) || matches!(op, ops::IINC | ops::RET)
 }
 
 /// Whether the local variable that an instruction names, if it names one, is among so many.

@@ -1,5 +1,5 @@
-ghost use Rattle.std.specs.Prelude.{◌≡◌, ℕ, IsTrue, List, ◌++◌, Some, false, Contains};
-ghost use Rattle.std.specs.List.{flat_map};
+ghost use Rattle.std.specs.Prelude.{◌≡◌, ℕ, List, [], ◌++◌, Some, true, false, Contains};
+ghost use Rattle.std.specs.List.{flat_map, AllByRecursion};
 ghost use Rattle.jv_types.specs.declared.instruction.Insn.{Insn};
 ghost use Rattle.jv_types.specs.declared.frames.VType.{VType};
 ghost use Rattle.jv_table.specs.CodeRows.{OpForm};
@@ -12,16 +12,27 @@ ghost use Rattle.jv_types.specs.declared.raw_handler.RawHandler.{RawHandler};
 ghost use Rattle.jv_types.specs.declared.body.Body.{Body};
 ghost use Rattle.jv_pool.specs.declared.item.PoolItem.{PoolItem};
 ghost use Rattle.jv_insn.specs.Decoding.{Decodes, FailsAt};
-ghost use Rattle.jv_insn.specs.Encoding.{IsSpelled};
+ghost use Rattle.jv_insn.specs.Encoding.{IsSpelled, is_left_out, StandsNear, MayStand, MayEncode};
+ghost use Rattle.jv_names.specs.PoolNames.{IsNamedPool};
+ghost use Rattle.jv_insn.specs.Kept.{KeepsForm};
+ghost use Rattle.jv_insn.specs.Building.{FitsCode};
 ghost use Rattle.jv_insn.specs.KindSafe.{IsKindSafe, Covers};
-ghost use Rattle.jv_insn.specs.Effects.{effect_of, op_row, decides_cells};
+ghost use Rattle.jv_insn.specs.Effects.{Shuffle, effect_of, op_row, shuffle_of, decides_cells};
+ghost use Rattle.jv_insn.specs.Forms.{HasOperands, HasOwnOperands};
 ghost use Rattle.jv_insn.specs.Kinds.{HoldsCells, cell_words, kinds_after};
 
-/// The cells of an opcode's row are those that each of its instructions takes and gives, where the
-/// operands don't decide them. This does nothing, and its contract is the law.
+/// The cells of an opcode's row are those that each of its instructions takes and gives, where the operands
+/// are of the opcode's layout and don't decide them. The row of an opcode whose operands decide them has none,
+/// and so has that of one that moves words. This does nothing, and its contract is the law.
 pub fn rows_are_effects()
-    ensures takes { (insn : Insn) (row : OpForm) → op_row insn.op ≡ Some row → decides_cells insn.arg ≡ false → (effect_of insn).takes ≡ row.takes }
-    ensures gives { (insn : Insn) (row : OpForm) → op_row insn.op ≡ Some row → decides_cells insn.arg ≡ false → (effect_of insn).gives ≡ row.gives }
+    ensures takes { (insn : Insn) (row : OpForm) → op_row insn.op ≡ Some row → HasOperands row.form insn.arg
+        → decides_cells row.form ≡ false → (effect_of insn).takes ≡ row.takes }
+    ensures gives { (insn : Insn) (row : OpForm) → op_row insn.op ≡ Some row → HasOperands row.form insn.arg
+        → decides_cells row.form ≡ false → (effect_of insn).gives ≡ row.gives }
+    ensures operands { (op : ℕ) (row : OpForm) → op_row op ≡ Some row → decides_cells row.form ≡ true
+        → (row.takes ≡ []) × (row.gives ≡ []) }
+    ensures moves { (op : ℕ) (row : OpForm) (shuffle : Shuffle) → op_row op ≡ Some row → shuffle_of op ≡ Some shuffle
+        → (row.takes ≡ []) × (row.gives ≡ []) }
 {}
 
 /// Words of a frame that hold cells have the kinds of these cells' words, and those below keep theirs. This
@@ -47,11 +58,43 @@ pub fn decoded_codes_fail_nowhere()
         → Decodes pool max_stack max_locals code handlers body → FailsAt pool max_locals code handlers pc → ⊥ }
 {}
 
+/// The operands of each instruction of a body that was decoded are of its opcode's layout. This does nothing,
+/// and its contract is the law.
+pub fn decoded_operands_are_of_the_layout()
+    ensures { (pool : List PoolItem) (max_stack max_locals : ℕ) (code : List ℕ) (handlers : List RawHandler) (body : Body)
+        (pc : ℕ) (insn : Insn) → Decodes pool max_stack max_locals code handlers body → at_offset pc body.insns ≡ Some insn
+        → HasOwnOperands insn }
+{}
+
+/// What a body keeps that was decoded over the pool of a class file: names and types in their form, and no
+/// more dimensions and words of arguments than the standard allows. This does nothing, and its contract is the
+/// law.
+pub fn decoded_bodies_keep_the_form()
+    ensures { (pool : List PoolItem) (max_stack max_locals : ℕ) (code : List ℕ) (handlers : List RawHandler) (body : Body)
+        (pc : ℕ) (insn : Insn) → IsNamedPool pool → Decodes pool max_stack max_locals code handlers body
+        → at_offset pc body.insns ≡ Some insn → KeepsForm insn }
+{}
+
 /// A body that was decoded is spelled by some code over some pool, as `encode` asks of it. This does nothing,
 /// and its contract is the law.
 pub fn decoded_bodies_are_spelled()
     ensures { (pool : List PoolItem) (max_stack max_locals : ℕ) (code : List ℕ) (handlers : List RawHandler) (body : Body)
         → Decodes pool max_stack max_locals code handlers body → IsSpelled body }
+{}
+
+/// A body that some code spells may be encoded, where no part of it is left out and the constant of each ldc
+/// stands near in the pool. This does nothing, and its contract is the law.
+pub fn spelled_bodies_may_be_encoded()
+    ensures { (pool : List PoolItem) (body : Body) → IsSpelled body
+        → AllByRecursion (λ (row : ℕ × Insn). is_left_out row.1.arg ≡ false) body.insns
+        → AllByRecursion (λ (row : ℕ × Insn). StandsNear pool row.1) body.insns → MayEncode pool body }
+{}
+
+/// An instruction whose operands fit, name what they may, and lead to instructions of a body, may stand in that
+/// body as `encode` asks of each. This does nothing, and its contract is the law.
+pub fn fitting_instructions_may_stand()
+    ensures { (max_locals : ℕ) (insns : List (ℕ × Insn)) (pc : ℕ) (insn : Insn) → FitsCode max_locals insns pc insn
+        → MayStand max_locals insns pc insn }
 {}
 
 /// What a code spells is one body. This does nothing, and its contract is the law.

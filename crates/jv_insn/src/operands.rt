@@ -17,12 +17,9 @@ use crate::places::{cases_at, target_at, targets_at};
 use crate::written::{Operands, Written};
 use jv_desc::arg_words;
 use jv_pool::{Pool, PoolItem};
-use jv_table::{Form, newarray_code};
+use jv_table::{Form, newarray_code, ops};
 use jv_types::{Arg, MethodRef, Prim, RefType};
 use std::alloc::Global;
-
-/// The opcode of invokevirtual, which names no method of an interface.
-const INVOKEVIRTUAL: u8 = 182;
 
 /// Whether a type has at least so many dimensions.
 fn has_dims(of: &RefType, dims: u8) -> bool
@@ -44,8 +41,8 @@ fn fits_op(op: u8, of: &RefType) -> bool
     ensures { IsTrue result ↔ FitsOp op of.now }
 {
     match op {
-        187 => !has_dims(of, 1),
-        189 => !has_dims(of, 255),
+        ops::NEW => !has_dims(of, 1),
+        ops::ANEWARRAY => !has_dims(of, 255),
         _ => true,
     }
 }
@@ -114,7 +111,7 @@ fn field_arg(alloc: Global, pool: &Pool, op: u8, index: u16) -> Result<Arg, Faul
 fn may_call(op: u8, method: &MethodRef) -> bool
     ensures { IsTrue result ↔ MayCall op method.now }
 {
-    op != INVOKEVIRTUAL || !method.interface
+    op != ops::INVOKEVIRTUAL || !method.interface
 }
 
 /// The method that an instruction other than invokeinterface names.

@@ -8,13 +8,10 @@ ghost use Rattle.jv_insn.specs.Reading.{Gives, laid_at, plain_at, wide_at, writt
 use crate::fault::Fault;
 use crate::number::{read_u1, read_u2, read_u4};
 use crate::switches::{read_lookup, read_table};
-use crate::written::{Operands, WIDE, Written};
+use crate::written::{Operands, Written};
 use jv_bytes::Cursor;
-use jv_table::{Form, newarray_code, opcode};
+use jv_table::{Form, newarray_code, opcode, ops};
 use std::alloc::Global;
-
-/// The opcode of ret, which has no wide form here.
-const RET: u8 = 169;
 
 /// The operands of a form, which begin at an offset of the code.
 #[tactic(auto, unfolding(crate::specs::Reading::laid_at, crate::specs::Reading::operands_at, crate::specs::Reading::one_at, crate::specs::Reading::two_at, crate::specs::Reading::three_at))]
@@ -72,7 +69,7 @@ fn read_wide_operands(cursor: &mut Cursor, op: u8, form: Form) -> Result<Operand
     ensures { Gives (λ x. x) result cursor.new (laid_at (wide_layout_of op form) 0 cursor.old) }
 {
     match form {
-        Form::Local if op != RET => Ok(Operands::Local(read_u2(cursor)?)),
+        Form::Local if op != ops::RET => Ok(Operands::Local(read_u2(cursor)?)),
         Form::Inc => {
             let local = read_u2(cursor)?;
             let by = read_u2(cursor)?;
@@ -159,7 +156,7 @@ pub fn read_insn(alloc: Global, cursor: &mut Cursor, pc: usize) -> Result<Writte
     ensures { Gives (λ x. x) result cursor.new (written_at pc cursor.old) }
 {
     let op = read_u1(cursor)?;
-    if op == WIDE {
+    if op == ops::WIDE {
         read_wide(cursor)
     } else {
         read_plain(alloc, cursor, pc, op)

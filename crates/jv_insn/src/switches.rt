@@ -1,5 +1,5 @@
 ghost use Rattle.std.specs.Prelude.{◌≡◌};
-ghost use Rattle.jv_attr.specs.Reading.{many_at};
+ghost use Rattle.jv_insn.specs.Reading.{many_at};
 ghost use Rattle.jv_insn.specs.Layouts.{padding_at};
 ghost use Rattle.jv_insn.specs.Reading.{Gives, s4_at, pair_at, span_of, table_at, lookup_at};
 

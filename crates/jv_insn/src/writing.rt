@@ -7,15 +7,14 @@ ghost use Rattle.jv_insn.specs.Encoding.{is_narrow, small_text, signed_text, beh
 ghost use Rattle.jv_insn.specs.Writing.{FitsMethod, FitsJump, FitsArg};
 
 use crate::switches::padding_at;
-use crate::written::WIDE;
 use jv_bytes::Writer;
 use jv_desc::arg_words;
-use jv_table::Form;
+use jv_table::{Form, ops};
 use jv_types::{Arg, MethodRef, Prim};
 use std::alloc::AllocError;
 
 /// Whether the numbers of a form take one byte each, and not two.
-fn is_narrow(form: Form, wide: bool) -> bool
+pub fn is_narrow(form: Form, wide: bool) -> bool
     ensures { result ≡ is_narrow form wide }
 {
     match form {
@@ -30,7 +29,7 @@ pub fn put_head(writer: &mut Writer, wide: bool, op: u8) -> Result<(), AllocErro
     ensures { OnOk result (writer.new ≡ writer.old ++ head_text wide op) }
 {
     if wide {
-        writer.put_u1(WIDE)?;
+        writer.put_u1(ops::WIDE)?;
     }
     writer.put_u1(op)
 }

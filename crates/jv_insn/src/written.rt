@@ -1,8 +1,5 @@
 use jv_types::Seq;
 
-/// The opcode of wide.
-pub const WIDE: u8 = 196;
-
 /// The operands of an instruction as they are written (JVMS 6.5): indices of the pool, and offsets in
 /// bytes from the instruction's own opcode.
 #[derive(Debug, PartialEq, Eq, Drop)]

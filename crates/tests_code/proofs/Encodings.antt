@@ -11,6 +11,7 @@ use Rattle.jv_insn.specs.Entries.{entry_of, put_named, Grows}
 use Rattle.jv_insn.specs.Encoding.{IsSpelled, is_left_out, StandsNear, MayEncode}
 use Rattle.jv_insn.proofs.Placed.{arg_put}
 use Rattle.jv_insn.proofs.Encoded.{near_later}
+use Rattle.jv_insn.proofs.SpelledBodies.{may_of_spelled}
 use Rattle.jv_insn.proofs.EncodingLoop.{all_push, all_on, one_more}
 
 -- the operands are whole, and a near constant stands near
@@ -37,8 +38,6 @@ may_all pool items insns i same le h = subst (AllByRecursion (MayBe pool)) (take
 
 -- a body of such instructions may be encoded
 pub may_of : (pool : List PoolItem) (body : Body) → IsSpelled body → AllByRecursion (MayBe pool) body.insns → MayEncode pool body
-may_of pool body spelled each = record {
-  spelled = spelled;
-  whole = all_on (MayBe pool) (λ (row : ℕ × Insn). is_left_out row.1.arg ≡ false) body.insns (λ row h. h.0) each;
-  near = all_on (MayBe pool) (λ (row : ℕ × Insn). StandsNear pool row.1) body.insns (λ row h. h.1) each;
-}
+may_of pool body spelled each =
+    may_of_spelled pool body spelled (all_on (MayBe pool) (λ (row : ℕ × Insn). is_left_out row.1.arg ≡ false) body.insns (λ row h. h.0) each)
+    (all_on (MayBe pool) (λ (row : ℕ × Insn). StandsNear pool row.1) body.insns (λ row h. h.1) each)

@@ -3,13 +3,14 @@ use Rattle.jv_types.specs.Bodies.{at_offset, IsStart}
 use Rattle.jv_types.specs.declared.frames.Frame.{Frame}
 use Rattle.jv_types.specs.declared.shapes.Shape.{Shape}
 use Rattle.jv_types.specs.declared.frames.FramedBody.{FramedBody}
-use Rattle.jv_insn.specs.Kinds.{Words}
+use Rattle.jv_insn.specs.Leaving.{Words}
+use Rattle.jv_insn.specs.Kinds.{WordKind}
 use Rattle.jv_insn.specs.KindSafe.{IsKindSafe, FitsAt}
 use Rattle.jv_insn.proofs.OneEach.{same_starts, value_of}
 use Rattle.jv_insn.proofs.laws.kind_safe_places_are_instructions.Goals as goal
 
 -- where a frame fits there is an instruction
-fits_start : (world : List Shape) (framed : FramedBody) → IsKindSafe world framed → (pc : ℕ) (words : Words) → FitsAt framed.frames pc words → IsStart framed.body.insns pc
+fits_start : (world : List Shape) (framed : FramedBody) → IsKindSafe world framed → (pc : ℕ) (words : Words WordKind) → FitsAt framed.frames pc words → IsStart framed.body.insns pc
 fits_start world framed safe pc words f = same_starts pc framed.frames framed.body.insns safe.one_each (rw f.stands refl)
 
 -- an instruction has its frame

@@ -1,7 +1,7 @@
 -- Each step of the loop, by the lemmas on reading parts one after the other.
 use Rattle.std.proofs.lemmas.Result.{err_from_is_err_and}
-use Rattle.jv_attr.specs.Reading.{many_at}
-use Rattle.jv_attr.proofs.Many.{many_begin, many_goes_on, many_done}
+use Rattle.jv_insn.specs.Reading.{many_at}
+use Rattle.jv_insn.proofs.Many.{many_begin, many_goes_on, many_done}
 use Rattle.jv_insn.specs.Reading.{pair_at}
 use Rattle.jv_insn.proofs.Many.{many_ends}
 use Rattle.jv_insn.proofs.switches.read_cases.Goals as goal

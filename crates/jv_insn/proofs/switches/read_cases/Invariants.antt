@@ -1,7 +1,7 @@
 -- What was read and what is still read are all of it.
 use Rattle.std.proofs.Common.{◌≡◌, ◌-◌}
 use Rattle.jv_pool.proofs.Loops.{with_front}
-use Rattle.jv_attr.specs.Reading.{many_at}
+use Rattle.jv_insn.specs.Reading.{many_at}
 use Rattle.jv_insn.specs.Reading.{pair_at}
 use Rattle.jv_insn.proofs.switches.read_cases.Given as goal
 

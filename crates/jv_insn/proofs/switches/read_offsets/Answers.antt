@@ -4,8 +4,8 @@ use Rattle.std.specs.Int.{w32}
 use Rattle.std.proofs.lemmas.Int.{to_z-of_z}
 use mir.Val.{SFits}
 use Rattle.std.proofs.lemmas.Result.{err_from_is_err_and}
-use Rattle.jv_attr.specs.Reading.{many_at}
-use Rattle.jv_attr.proofs.Many.{many_begin, many_goes_on, many_done}
+use Rattle.jv_insn.specs.Reading.{many_at}
+use Rattle.jv_insn.proofs.Many.{many_begin, many_goes_on, many_done}
 use Rattle.jv_insn.specs.Reading.{s4_at}
 use Rattle.jv_insn.proofs.Many.{many_ends}
 use Rattle.jv_insn.proofs.switches.read_offsets.Goals as goal

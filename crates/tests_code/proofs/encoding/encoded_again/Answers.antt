@@ -1,5 +1,5 @@
 -- A body that was decoded is spelled.
-use Rattle.jv_insn.proofs.Encoded.{spelled_of}
+use Rattle.jv_insn.proofs.SpelledBodies.{spelled_of}
 use Rattle.tests_code.proofs.encoding.encoded_again.Goals as goal
 
 pub encoded-requires : goal.encoded-requires
