@@ -61,6 +61,9 @@ field_item None class pair e = absurd cc
 field_item (Some (items.Field a b)) class pair e = let is : (a, b) ≡ (class, pair) = some_is (a, b) (class, pair) e in ap (λ (p : ℕ × ℕ). Some (items.Field p.0 p.1)) is
 field_item (Some _) class pair e = absurd cc
 
+abbrev paired : List ℕ → List ℕ → List ℕ × List ℕ
+paired name desc = (name, desc)
+
 -- the two texts of a name and descriptor
 pair_texts : (pool : List PoolItem) (pair first second : ℕ) (name desc : List ℕ) → texts_at pool pair ≡ Some (name, desc) → item_at pool pair ≡ Some (items.NameAndType first second)
     → (text_at pool first ≡ Some name) × (text_at pool second ≡ Some desc)
@@ -68,11 +71,11 @@ pair_texts pool pair first second name desc texts item =
     let found : name_and_type_at pool pair ≡ name_and_type_in pool (items.NameAndType first second) = ap (option_and_then (name_and_type_in pool)) item in
     both (names is_utf8 pool first && names is_utf8 pool second) (sym (ap (option_and_then (texts_of pool)) found) ∙ texts)
   where
-    texts_are : (a b : Option (List ℕ)) → option_and_then (λ (name : List ℕ). option_and_then (λ (desc : List ℕ). Some (name, desc)) b) a ≡ Some (name, desc) → (a ≡ Some name) × (b ≡ Some desc)
+    texts_are : (a b : Option (List ℕ)) → option_and_then (λ (name : List ℕ). option_and_then (λ (desc : List ℕ). Some (paired name desc)) b) a ≡ Some (paired name desc) → (a ≡ Some name) × (b ≡ Some desc)
     texts_are None b e = absurd cc
     texts_are (Some x) None e = absurd cc
     texts_are (Some x) (Some y) e =
-        let is : (x, y) ≡ (name, desc) = some_is (x, y) (name, desc) e in
+        let is : paired x y ≡ paired name desc = some_is (paired x y) (paired name desc) e in
         (ap (λ (p : List ℕ × List ℕ). Some p.0) is, ap (λ (p : List ℕ × List ℕ). Some p.1) is)
     both : (b : Bool) → option_and_then (texts_of pool) (cond b (Some (first, second)) None) ≡ Some (name, desc) → (text_at pool first ≡ Some name) × (text_at pool second ≡ Some desc)
     both true e = texts_are (text_at pool first) (text_at pool second) e
@@ -143,7 +146,7 @@ called_so pool index method all h =
 -- ---- operands
 
 not_both : (form a b : Form) → form ≡ a → form ≡ b → (a ≡ b → ⊥) → ⊥
-not_both form a b e f no = no (sym e ∙ f)
+not_both form a b e f differ = differ (sym e ∙ f)
 
 keeps_plain : {I : Type 0} (form : Form) (pool : List PoolItem) (rows : List (ℕ × I)) (pc op : ℕ) (text : List ℕ) (operands : Operands) (arg : Arg) → IsNamedPool pool → form_of op ≡ form
     → AreOperandsBy (layout_of form) (pc + 1) text operands → is_allowed operands ≡ true → NamesOperands pool rows pc op form operands arg → HasOperands form arg → KeepsArg op arg

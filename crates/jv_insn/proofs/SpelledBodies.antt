@@ -228,12 +228,15 @@ places_of pool size rows insns on (r ∷ raws) (x ∷ xs) h =
       places_of pool size rows insns on raws xs h.1,
     )
 
+from_zero : (n : ℕ) → 0 + n ≡ n
+from_zero n = omega arith
+
 pub may_of_spelled : (pool : List PoolItem) (body : Body) → IsSpelled body → AllByRecursion (λ (row : ℕ × Insn). is_left_out row.1.arg ≡ false) body.insns → AllByRecursion (λ (row : ℕ × Insn). StandsNear pool row.1) body.insns → MayEncode pool body
 may_of_spelled pool body s whole near =
     let d = s.decodes in
     let on = rows_on s.pool body.max_locals d.rows d.rows body.insns d.insns in
     record {
-      laid = laid_of s.pool body.max_locals d.rows 0 body.length s.code d.rows body.insns d.laid d.insns (sym d.length_is);
+      laid = laid_of s.pool body.max_locals d.rows 0 body.length s.code d.rows body.insns d.laid d.insns (from_zero (length s.code) ∙ sym d.length_is);
       each = stand_of s.pool body.max_locals d.rows body.insns 0 s.code d.rows body.insns on d.laid d.insns;
       handlers = subst (λ (n : ℕ). AllByRecursion (HasPlaces body.insns n) body.handlers) (sym d.length_is) (places_of s.pool (length s.code) d.rows body.insns on s.handlers body.handlers d.handlers_are);
       whole = whole;
