@@ -77,6 +77,7 @@ pair_texts pool pair first second name desc texts item =
     texts_are (Some x) (Some y) e =
         let is : paired x y ≡ paired name desc = some_is (paired x y) (paired name desc) e in
         (ap (λ (p : List ℕ × List ℕ). Some p.0) is, ap (λ (p : List ℕ × List ℕ). Some p.1) is)
+
     both : (b : Bool) → option_and_then (texts_of pool) (cond b (Some (first, second)) None) ≡ Some (name, desc) → (text_at pool first ≡ Some name) × (text_at pool second ≡ Some desc)
     both true e = texts_are (text_at pool first) (text_at pool second) e
     both false e = absurd cc
