@@ -2,7 +2,9 @@
 # Times the building of worlds and subtype tests over them: the program `measure` on a chain and a fan of
 # classes and on a lattice of interfaces, on n and 2n of them. Prints a row a world: how many proper supertypes
 # its classes have together, the seconds and the peak memory of building, nanoseconds and bytes a supertype,
-# and the seconds of a million subtype tests. It builds the program first.
+# and the seconds of a million subtype tests. Then a row for a class of many methods and for chains of a hundred
+# classes: nanoseconds to resolve a method of the topmost class from the lowest one and to select it there. It
+# builds the program first.
 set -eu
 top=$(cd "$(dirname "$0")/.." && pwd)
 "$top/bench/build.sh" measure sample
@@ -36,4 +38,13 @@ for family in ("chain", "fan", "lattice"):
             "%s n=%d supertypes=%d build: %.3f s %d KiB, %.1f ns and %.1f bytes a supertype, a million tests: %.3f s"
             % (family, count, supers, built, peak, built * 1e9 / supers, peak * 1024 / supers, tested - built)
         )
+
+for count, methods in ((1, 5000), (100, 50), (100, 5000)):
+    built, _, _ = run("members", str(count), str(methods), "0")
+    found, peak, out = run("members", str(count), str(methods), "1")
+    assert int(out) == methods, (count, methods)
+    print(
+        "members classes=%d methods=%d: %.0f ns to resolve and select one, %d KiB"
+        % (count, methods, (found - built) * 1e9 / methods, peak)
+    )
 PY
