@@ -29,7 +29,7 @@ fn files(rt: &HostRuntime, text: &str) -> Result<Vec<HostFile>> {
 /// A host in memory with the files that a field lists, whose calls of the numbers that another lists fail.
 pub fn memory(rt: &HostRuntime, told: &str, faults: &str) -> Result<MemHost> {
     let files = files(rt, told)?;
-    ensure!(has_no_twins(&files), "two files of one name");
+    ensure!(has_no_twins(files.as_slice()), "two files of one name");
     let faults = numbers(rt.alloc(), faults)?;
     Ok(MemHost::new(rt.alloc(), Seq::from_vec(files), faults))
 }
