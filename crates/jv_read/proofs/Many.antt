@@ -1,14 +1,15 @@
 -- Parts of one kind, one after the other: as a loop reads them, and as they are spelled.
-use Rattle.std.proofs.Common.{◌≡◌, ℕ, zero, suc, ◌-◌, ◌+◌, ◌≤◌, ◌<◌, List, [], ◌∷◌, ◌++◌, length, Option, Some, None, refl, sym, ap, ◌∙◌, append_assoc, arith}
+use Rattle.std.proofs.Common.{◌≡◌, ℕ, zero, suc, ◌-◌, ◌+◌, ◌≤◌, ◌<◌, ◌^◌, List, [], ◌∷◌, ◌++◌, length, Option, Some, None, refl, sym, ap, ◌∙◌, append_assoc, arith}
 use Rattle.std.specs.List.{flat_map, AllByRecursion}
 use Rattle.std.proofs.lemmas.List.{append-nil}
 use Rattle.std.proofs.lemmas.List.Concat.{flat_map-cons}
+use Rattle.jv_bytes.specs.Numbers.{number_text}
 use Rattle.jv_read.specs.Reading.{◌>>=◌}
-use Rattle.jv_read.proofs.Fronts.{bind_some, bind_is, given_as, joined}
+use Rattle.jv_read.proofs.Fronts.{bind_some, bind_is, given_as, joined, number_takes, number_again}
 use Rattle.jv_read.proofs.Loops.{with_front, front_none, regroup}
 use Rattle.jv_read.specs.declared.fault.ReadFault.{ReadFault}
 use Rattle.jv_read.specs.declared.fault.ReadFault.TheVariants as faults
-use Rattle.jv_read.specs.Reading.{Fails, many_at}
+use Rattle.jv_read.specs.Reading.{Fails, number_at, many_at, counted_at}
 
 -- ---- a loop
 
@@ -75,6 +76,26 @@ many_again one text P again (a ∷ parts) rest h =
     ap (many_at one (length (a ∷ parts))) regrouped
     ∙ bind_is (one (text a ++ after)) (λ first. many_at one (length parts) first.1 >>= λ x. Some (first.0 ∷ x.0, x.1)) (a, after) (again a after h.0)
     ∙ bind_is (many_at one (length parts) after) (λ x. Some (a ∷ x.0, x.1)) (parts, rest) (many_again one text P again parts rest h.1)
+
+-- a count and as many parts that are read are spelled so
+pub counted_take : {A : Type 0} (one : List ℕ → Option (A × List ℕ)) (text : A → List ℕ) (P : A → Type 0) → ((bytes : List ℕ) (x : A × List ℕ) → one bytes ≡ Some x → P x.0 × (bytes ≡ text x.0 ++ x.1))
+    → (bytes : List ℕ) (x : List A × List ℕ) → counted_at one bytes ≡ Some x → AllByRecursion P x.0 × (length x.0 < 2 ^ 16) × (bytes ≡ (number_text 2 (length x.0) ++ flat_map text x.0) ++ x.1)
+unfolding counted_at
+counted_take one text P takes bytes x e =
+    let a = bind_some (number_at 2 bytes) (λ count. many_at one count.0 count.1) x e in
+    let s = number_takes 2 bytes a.0 a.1 in
+    let t = many_take one text P takes a.0.0 a.0.1 x a.2 in
+    (t.0, omega (arith, t.1, s.1), joined bytes (number_text 2 (length x.0)) (flat_map text x.0) a.0.1 x.1 (s.0 ∙ ap (λ (k : ℕ). number_text 2 k ++ a.0.1) (sym t.1)) t.2)
+
+-- a count and as many parts are read again, whatever follows
+pub counted_again : {A : Type 0} (one : List ℕ → Option (A × List ℕ)) (text : A → List ℕ) (P : A → Type 0) → ((a : A) (rest : List ℕ) → P a → one (text a ++ rest) ≡ Some (a, rest))
+    → (parts : List A) (rest : List ℕ) → AllByRecursion P parts → length parts < 2 ^ 16 → counted_at one ((number_text 2 (length parts) ++ flat_map text parts) ++ rest) ≡ Some (parts, rest)
+unfolding counted_at
+counted_again one text P again parts rest h few =
+    let after = flat_map text parts ++ rest in
+    ap (λ (b : List ℕ). number_at 2 b >>= λ count. many_at one count.0 count.1) (append_assoc (number_text 2 (length parts)) (flat_map text parts) rest)
+    ∙ bind_is (number_at 2 (number_text 2 (length parts) ++ after)) (λ count. many_at one count.0 count.1) (length parts, after) (number_again 2 (length parts) after few)
+    ∙ many_again one text P again parts rest h
 
 -- each has both
 pub both_of : {A : Type 0} (P Q : A → Type 0) (xs : List A) → AllByRecursion P xs → AllByRecursion Q xs → AllByRecursion (λ x. P x × Q x) xs
