@@ -8,8 +8,8 @@ use Rattle.jv_types.specs.declared.raw_handler.RawHandler.{RawHandler}
 use Rattle.jv_pool.specs.declared.item.PoolItem.{PoolItem}
 use Rattle.jv_pool.specs.Lookups.{text_at}
 use Rattle.jv_pool.specs.PoolText.{u2, u4}
-use Rattle.jv_pool.specs.Reading.{◌>>=◌, number_at, bytes_at}
-use Rattle.jv_pool.proofs.Fronts.{bind_some, bind_is, past_true, past_false, given_as, some_is, joined, number_takes, number_again, bytes_take, bytes_again}
+use Rattle.jv_read.specs.Reading.{◌>>=◌, number_at, bytes_at}
+use Rattle.jv_read.proofs.Fronts.{bind_some, bind_is, past_true, past_false, given_as, some_is, joined, number_takes, number_again, bytes_take, bytes_again}
 use Rattle.jv_attr.specs.declared.frame.MapFrame.{MapFrame}
 use Rattle.jv_attr.specs.declared.attr.Attr.{Attr}
 use Rattle.jv_attr.specs.declared.attr.AttrBody.{AttrBody}
@@ -18,13 +18,11 @@ use Rattle.jv_attr.specs.declared.attr.CodeAttr.{CodeAttr}
 use Rattle.std.specs.declared.convert.Infallible.{Infallible as NoCode}
 use Rattle.jv_attr.specs.declared.owner.Owner as owners
 use Rattle.jv_attr.specs.declared.owner.Owner.TheVariants as owner
-use Rattle.jv_attr.specs.declared.fault.BadAttr.{BadAttr}
-use Rattle.jv_attr.specs.declared.fault.BadAttr.TheVariants.{Bad, Memory}
 use Rattle.jv_attr.specs.FrameText.{frames_text}
 use Rattle.jv_attr.specs.AttrText.{is_code, is_maps, body_text, IsBody, HasFewWith, IsShortWith, no_code_text, IsNoCode, inner_text, IsInner, IsInnerFew, IsInnerShort, has_maps, handler_text, is_catch, IsHandler, code_text, IsCode, IsFewCode, IsShortCode, attr_text, IsAttr, HasFew, IsShort, IsAttrText, BeginsWithAttr}
-use Rattle.jv_attr.specs.Reading.{Gives, many_at}
+use Rattle.jv_read.specs.Reading.{counted_at}
 use Rattle.jv_attr.specs.AttrReading.{maps_at, head_at, other_at, inner_at, handler_at, handlers_at, code_bytes_at, inners_at, code_at, whole_code_at, body_at, attr_at}
-use Rattle.jv_attr.proofs.Many.{many_take, many_again}
+use Rattle.jv_read.proofs.Many.{counted_take, counted_again}
 use Rattle.jv_attr.proofs.FrameLaws.{maps_take, maps_again, nothing_left}
 
 -- ---- a name and a content
@@ -136,24 +134,18 @@ inners_take : (pool : List PoolItem) (major : ℕ) (bytes : List ℕ) (x : List 
     → AllByRecursion (IsWholeInner pool major) x.0 × (length x.0 < 2 ^ 16) × (count_by has_maps x.0 ≤ 1) × (bytes ≡ (u2 (length x.0) ++ flat_map inner_text x.0) ++ x.1)
 unfolding inners_at
 inners_take pool major bytes x e =
-    let a = bind_some (number_at 2 bytes) (λ count. many_at (inner_at pool major) count.0 count.1 >>= λ attrs. cond (leb (count_by has_maps attrs.0) 1) (Some attrs) None) x e in
-    let b = bind_some (many_at (inner_at pool major) a.0.0 a.0.1) (λ attrs. cond (leb (count_by has_maps attrs.0) 1) (Some attrs) None) x a.2 in
+    let b = bind_some (counted_at (inner_at pool major) bytes) (λ attrs. cond (leb (count_by has_maps attrs.0) 1) (Some attrs) None) x e in
     let g = past_true (leb (count_by has_maps b.0.0) 1) (Some b.0) x b.2 in
-    let s = number_takes 2 bytes a.0 a.1 in
-    let t = many_take (inner_at pool major) inner_text (IsWholeInner pool major) (inner_takes pool major) a.0.0 a.0.1 b.0 b.1 in
-    let whole = joined bytes (u2 (length b.0.0)) (flat_map inner_text b.0.0) a.0.1 b.0.1 (s.0 ∙ ap (λ (k : ℕ). u2 k ++ a.0.1) (sym t.1)) t.2 in
+    let t = counted_take (inner_at pool major) inner_text (IsWholeInner pool major) (inner_takes pool major) bytes b.0 b.1 in
     given_as (λ (y : List (Attr NoCode) × List ℕ). AllByRecursion (IsWholeInner pool major) y.0 × (length y.0 < 2 ^ 16) × (count_by has_maps y.0 ≤ 1) × (bytes ≡ (u2 (length y.0) ++ flat_map inner_text y.0) ++ y.1)) b.0 x g.1
-    (t.0, omega (arith, t.1, s.1), leb-true (count_by has_maps b.0.0) 1 g.0, whole)
+    (t.0, t.1, leb-true (count_by has_maps b.0.0) 1 g.0, t.2)
 
 inners_again : (pool : List PoolItem) (major : ℕ) (attrs : List (Attr NoCode)) (rest : List ℕ) → AllByRecursion (IsWholeInner pool major) attrs → length attrs < 2 ^ 16 → count_by has_maps attrs ≤ 1
     → inners_at pool major ((u2 (length attrs) ++ flat_map inner_text attrs) ++ rest) ≡ Some (attrs, rest)
 unfolding inners_at
 inners_again pool major attrs rest h few one =
-    let after = flat_map inner_text attrs ++ rest in
     let test : leb (count_by has_maps attrs) 1 ≡ true = le-leb (count_by has_maps attrs) 1 one in
-    ap (λ (b : List ℕ). number_at 2 b >>= λ count. many_at (inner_at pool major) count.0 count.1 >>= λ x. cond (leb (count_by has_maps x.0) 1) (Some x) None) (append_assoc (u2 (length attrs)) (flat_map inner_text attrs) rest)
-    ∙ bind_is (number_at 2 (u2 (length attrs) ++ after)) (λ count. many_at (inner_at pool major) count.0 count.1 >>= λ x. cond (leb (count_by has_maps x.0) 1) (Some x) None) (length attrs, after) (number_again 2 (length attrs) after few)
-    ∙ bind_is (many_at (inner_at pool major) (length attrs) after) (λ x. cond (leb (count_by has_maps x.0) 1) (Some x) None) (attrs, rest) (many_again (inner_at pool major) inner_text (IsWholeInner pool major) (inner_again pool major) attrs rest h)
+    bind_is (counted_at (inner_at pool major) ((u2 (length attrs) ++ flat_map inner_text attrs) ++ rest)) (λ x. cond (leb (count_by has_maps x.0) 1) (Some x) None) (attrs, rest) (counted_again (inner_at pool major) inner_text (IsWholeInner pool major) (inner_again pool major) attrs rest h few)
     ∙ ap (λ (b : Bool). cond b (some_attrs (attrs, rest)) None) test
   where
     some_attrs : List (Attr NoCode) × List ℕ → Option (List (Attr NoCode) × List ℕ)
@@ -199,21 +191,11 @@ handler_again pool h rest i =
 
 handlers_take : (pool : List PoolItem) (bytes : List ℕ) (x : List RawHandler × List ℕ) → handlers_at pool bytes ≡ Some x
     → AllByRecursion (IsHandler pool) x.0 × (length x.0 < 2 ^ 16) × (bytes ≡ (u2 (length x.0) ++ flat_map handler_text x.0) ++ x.1)
-unfolding handlers_at
-handlers_take pool bytes x e =
-    let a = bind_some (number_at 2 bytes) (λ count. many_at (handler_at pool) count.0 count.1) x e in
-    let s = number_takes 2 bytes a.0 a.1 in
-    let t = many_take (handler_at pool) handler_text (IsHandler pool) (handler_takes pool) a.0.0 a.0.1 x a.2 in
-    (t.0, omega (arith, t.1, s.1), joined bytes (u2 (length x.0)) (flat_map handler_text x.0) a.0.1 x.1 (s.0 ∙ ap (λ (k : ℕ). u2 k ++ a.0.1) (sym t.1)) t.2)
+handlers_take pool bytes x e = counted_take (handler_at pool) handler_text (IsHandler pool) (handler_takes pool) bytes x e
 
 handlers_again : (pool : List PoolItem) (handlers : List RawHandler) (rest : List ℕ) → AllByRecursion (IsHandler pool) handlers → length handlers < 2 ^ 16
     → handlers_at pool ((u2 (length handlers) ++ flat_map handler_text handlers) ++ rest) ≡ Some (handlers, rest)
-unfolding handlers_at
-handlers_again pool handlers rest h few =
-    let after = flat_map handler_text handlers ++ rest in
-    ap (λ (b : List ℕ). number_at 2 b >>= λ count. many_at (handler_at pool) count.0 count.1) (append_assoc (u2 (length handlers)) (flat_map handler_text handlers) rest)
-    ∙ bind_is (number_at 2 (u2 (length handlers) ++ after)) (λ count. many_at (handler_at pool) count.0 count.1) (length handlers, after) (number_again 2 (length handlers) after few)
-    ∙ many_again (handler_at pool) handler_text (IsHandler pool) (handler_again pool) handlers rest h
+handlers_again pool handlers rest h few = counted_again (handler_at pool) handler_text (IsHandler pool) (handler_again pool) handlers rest h few
 
 -- neither test passed
 both_false : (p q : Bool) → (p || q) ≡ false → (p ≡ false) × (q ≡ false)
@@ -421,19 +403,12 @@ no_front pool o major a b front more p q =
 
 -- ---- what the reader answers
 
-pub is_found : (pool : List PoolItem) (o : owners.Owner) (major : ℕ) (old new : List ℕ) (r : Result (Attr CodeAttr) BadAttr) → Gives (λ (x : Attr CodeAttr). x) r new (attr_at pool o major old)
-    → IfOk r (λ a. BeginsWithAttr pool o major old a new)
-is_found pool o major old new (Ok a) h = attr_takes pool o major old (a, new) h
-is_found pool o major old new (Err e) h = tt
-
-pub is_bad : (pool : List PoolItem) (o : owners.Owner) (major : ℕ) (old new : List ℕ) (r : Result (Attr CodeAttr) BadAttr) → Gives (λ (x : Attr CodeAttr). x) r new (attr_at pool o major old)
-    → r ≡ Err Bad → (a : Attr CodeAttr) (rest : List ℕ) → BeginsWithAttr pool o major old a rest → ⊥
-is_bad pool o major old new (Ok x) h e a rest b = absurd cc
-is_bad pool o major old new (Err Bad) h e a rest b =
+-- bytes of which nothing was read begin with no attribute
+pub is_refused : (pool : List PoolItem) (o : owners.Owner) (major : ℕ) (bytes : List ℕ) → attr_at pool o major bytes ≡ None → (a : Attr CodeAttr) (rest : List ℕ) → BeginsWithAttr pool o major bytes a rest → ⊥
+is_refused pool o major bytes none a rest b =
     let made : Attr CodeAttr × List ℕ = (a, rest) in
-    let found : none_read ≡ Some made = sym h ∙ attr_found pool o major old a rest b in
+    let found : none_read ≡ Some made = sym none ∙ attr_found pool o major bytes a rest b in
     absurd cc
   where
     none_read : Option (Attr CodeAttr × List ℕ)
     none_read = None
-is_bad pool o major old new (Err Memory) h e a rest b = absurd cc

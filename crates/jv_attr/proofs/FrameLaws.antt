@@ -7,14 +7,14 @@ use Rattle.jv_table.specs.declared.class_tables.FrameGroup.{FrameGroup}
 use Rattle.jv_table.specs.declared.class_tables.FrameGroup.TheVariants.{Same, SameOne, SameOneExtended, Chop, SameExtended, Append, Full}
 use Rattle.jv_pool.specs.declared.item.PoolItem.{PoolItem}
 use Rattle.jv_pool.specs.PoolText.{u2}
-use Rattle.jv_pool.specs.Reading.{◌>>=◌, u1_at, number_at}
-use Rattle.jv_pool.proofs.Fronts.{bind_some, bind_is, past_true, given_as, joined, u1_takes, u1_again, number_takes, number_again}
+use Rattle.jv_read.specs.Reading.{◌>>=◌, u1_at, number_at}
+use Rattle.jv_read.proofs.Fronts.{bind_some, bind_is, past_true, given_as, joined, u1_takes, u1_again, number_takes, number_again}
 use Rattle.jv_attr.specs.declared.frame.MapType.{MapType}
 use Rattle.jv_attr.specs.declared.frame.MapFrame.{MapFrame}
 use Rattle.jv_attr.specs.FrameText.{has_arg, group_of, arg_text, type_text, IsArg, is_typed, IsType, types_text, parts_text, frame_text, HasParts, IsFrame, HasFewParts, HasFewTypes, frames_text, AreFewFrames}
-use Rattle.jv_attr.specs.Reading.{many_at}
+use Rattle.jv_read.specs.Reading.{many_at}
 use Rattle.jv_attr.specs.AttrReading.{arg_at, type_at, types_at, counted_types_at, same_one_at, same_one_extended_at, delta_at, append_at, full_at, parts_at, frame_at, frames_at, maps_at}
-use Rattle.jv_attr.proofs.Many.{many_take, many_again, both_of, first_of_both, second_of_both}
+use Rattle.jv_read.proofs.Many.{many_take, many_again, counted_take, counted_again, both_of, first_of_both, second_of_both}
 
 -- ---- verification types
 
@@ -71,20 +71,10 @@ types_again pool n types rest len h = ap (λ (k : ℕ). many_at (type_at pool) k
 
 counted_takes : (pool : List PoolItem) (bytes : List ℕ) (x : List MapType × List ℕ) → counted_types_at pool bytes ≡ Some x
     → AllByRecursion (IsType pool) x.0 × (length x.0 < 2 ^ 16) × (bytes ≡ (u2 (length x.0) ++ types_text x.0) ++ x.1)
-unfolding counted_types_at
-counted_takes pool bytes x e =
-    let a = bind_some (number_at 2 bytes) (λ count. types_at pool count.0 count.1) x e in
-    let s = number_takes 2 bytes a.0 a.1 in
-    let t = types_take pool a.0.0 a.0.1 x a.2 in
-    (t.0, omega (arith, t.1, s.1), joined bytes (u2 (length x.0)) (types_text x.0) a.0.1 x.1 (s.0 ∙ ap (λ (k : ℕ). u2 k ++ a.0.1) (sym t.1)) t.2)
+counted_takes pool bytes x e = counted_take (type_at pool) type_text (IsType pool) (type_takes pool) bytes x e
 
-counted_again : (pool : List PoolItem) (types : List MapType) (rest : List ℕ) → length types < 2 ^ 16 → AllByRecursion (IsType pool) types → counted_types_at pool ((u2 (length types) ++ types_text types) ++ rest) ≡ Some (types, rest)
-unfolding counted_types_at
-counted_again pool types rest lt h =
-    let after = types_text types ++ rest in
-    ap (λ (b : List ℕ). number_at 2 b >>= λ count. types_at pool count.0 count.1) (append_assoc (u2 (length types)) (types_text types) rest)
-    ∙ bind_is (number_at 2 (u2 (length types) ++ after)) (λ count. types_at pool count.0 count.1) (length types, after) (number_again 2 (length types) after lt)
-    ∙ types_again pool (length types) types rest refl h
+types_counted : (pool : List PoolItem) (types : List MapType) (rest : List ℕ) → length types < 2 ^ 16 → AllByRecursion (IsType pool) types → counted_types_at pool ((u2 (length types) ++ types_text types) ++ rest) ≡ Some (types, rest)
+types_counted pool types rest lt h = counted_again (type_at pool) type_text (IsType pool) (type_again pool) types rest h lt
 
 -- ---- what is behind a frame's kind
 
@@ -224,8 +214,8 @@ parts_again pool Full f rest h locals stack few =
     let flat : ((((d ++ l) ++ m) ++ n) ++ o) ++ rest ≡ d ++ ((l ++ m) ++ ((n ++ o) ++ rest)) = simp append_assoc in
     ap (λ (b : List ℕ). number_at 2 b >>= λ d. counted_types_at pool d.1 >>= λ l. counted_types_at pool l.1 >>= λ s. Some (record { kind = f.kind; delta = d.0; locals = l.0; stack = s.0 }, s.1)) flat
     ∙ bind_is (number_at 2 (d ++ ((l ++ m) ++ ((n ++ o) ++ rest)))) (λ d. counted_types_at pool d.1 >>= λ l. counted_types_at pool l.1 >>= λ s. Some (record { kind = f.kind; delta = d.0; locals = l.0; stack = s.0 }, s.1)) (f.delta, (l ++ m) ++ ((n ++ o) ++ rest)) (number_again 2 f.delta ((l ++ m) ++ ((n ++ o) ++ rest)) h)
-    ∙ bind_is (counted_types_at pool ((l ++ m) ++ ((n ++ o) ++ rest))) (λ l. counted_types_at pool l.1 >>= λ s. Some (record { kind = f.kind; delta = f.delta; locals = l.0; stack = s.0 }, s.1)) (f.locals, (n ++ o) ++ rest) (counted_again pool f.locals ((n ++ o) ++ rest) few.0 locals)
-    ∙ bind_is (counted_types_at pool ((n ++ o) ++ rest)) (λ s. Some (record { kind = f.kind; delta = f.delta; locals = f.locals; stack = s.0 }, s.1)) (f.stack, rest) (counted_again pool f.stack rest few.1 stack)
+    ∙ bind_is (counted_types_at pool ((l ++ m) ++ ((n ++ o) ++ rest))) (λ l. counted_types_at pool l.1 >>= λ s. Some (record { kind = f.kind; delta = f.delta; locals = l.0; stack = s.0 }, s.1)) (f.locals, (n ++ o) ++ rest) (types_counted pool f.locals ((n ++ o) ++ rest) few.0 locals)
+    ∙ bind_is (counted_types_at pool ((n ++ o) ++ rest)) (λ s. Some (record { kind = f.kind; delta = f.delta; locals = f.locals; stack = s.0 }, s.1)) (f.stack, rest) (types_counted pool f.stack rest few.1 stack)
 
 -- ---- frames
 
@@ -268,27 +258,20 @@ nothing_left (x ∷ xs) e = absurd (omega (arith, eqb-true (length (x ∷ xs)) 0
 
 -- frames that are all of a content are spelled so
 pub maps_take : (pool : List PoolItem) (content : List ℕ) (frames : List MapFrame) → maps_at pool content ≡ Some frames → AllByRecursion (IsFrame pool) frames × AreFewFrames frames × (content ≡ frames_text frames)
-unfolding maps_at frames_at
+unfolding maps_at
 maps_take pool content frames e =
-    let a = bind_some (number_at 2 content >>= λ count. many_at (frame_at pool) count.0 count.1) (λ f. cond (eqb (length f.1) 0) (Some f.0) None) frames e in
-    let b = bind_some (number_at 2 content) (λ count. many_at (frame_at pool) count.0 count.1) a.0 a.1 in
+    let a = bind_some (frames_at pool content) (λ f. cond (eqb (length f.1) 0) (Some f.0) None) frames e in
     let g = past_true (eqb (length a.0.1) 0) (Some a.0.0) frames a.2 in
-    let s = number_takes 2 content b.0 b.1 in
-    let t = many_take (frame_at pool) frame_text (IsShortFrame pool) (frame_takes pool) b.0.0 b.0.1 a.0 b.2 in
-    let count : length a.0.0 < 2 ^ 16 = omega (arith, t.1, s.1) in
-    let whole : content ≡ frames_text a.0.0 ++ a.0.1 = joined content (u2 (length a.0.0)) (flat_map frame_text a.0.0) b.0.1 a.0.1 (s.0 ∙ ap (λ (k : ℕ). u2 k ++ b.0.1) (sym t.1)) t.2 in
-    let all : content ≡ frames_text a.0.0 = whole ∙ ap (λ (r : List ℕ). frames_text a.0.0 ++ r) (nothing_left a.0.1 g.0) ∙ append-nil (frames_text a.0.0) in
+    let t = counted_take (frame_at pool) frame_text (IsShortFrame pool) (frame_takes pool) content a.0 a.1 in
+    let all : content ≡ frames_text a.0.0 = t.2 ∙ ap (λ (r : List ℕ). frames_text a.0.0 ++ r) (nothing_left a.0.1 g.0) ∙ append-nil (frames_text a.0.0) in
     given_as (λ (fs : List MapFrame). AllByRecursion (IsFrame pool) fs × AreFewFrames fs × (content ≡ frames_text fs)) a.0.0 frames g.1
-    (first_of_both (IsFrame pool) HasFewTypes a.0.0 t.0, (count, second_of_both (IsFrame pool) HasFewTypes a.0.0 t.0), all)
+    (first_of_both (IsFrame pool) HasFewTypes a.0.0 t.0, (t.1, second_of_both (IsFrame pool) HasFewTypes a.0.0 t.0), all)
 
 -- frames are read again
 pub maps_again : (pool : List PoolItem) (frames : List MapFrame) → AllByRecursion (IsFrame pool) frames → AreFewFrames frames → maps_at pool (frames_text frames) ≡ Some frames
-unfolding maps_at frames_at
+unfolding maps_at
 maps_again pool frames h few =
-    let text = flat_map frame_text frames in
-    let open_end : u2 (length frames) ++ text ≡ u2 (length frames) ++ (text ++ []) = ap (λ (t : List ℕ). u2 (length frames) ++ t) (sym (append-nil text)) in
-    let read : (number_at 2 (u2 (length frames) ++ text) >>= λ count. many_at (frame_at pool) count.0 count.1) ≡ Some (frames, []) =
-    ap (λ (b : List ℕ). number_at 2 b >>= λ count. many_at (frame_at pool) count.0 count.1) open_end
-    ∙ bind_is (number_at 2 (u2 (length frames) ++ (text ++ []))) (λ count. many_at (frame_at pool) count.0 count.1) (length frames, text ++ []) (number_again 2 (length frames) (text ++ []) few.0)
-    ∙ many_again (frame_at pool) frame_text (IsShortFrame pool) (frame_again pool) frames [] (both_of (IsFrame pool) HasFewTypes frames h few.1) in
-    bind_is (number_at 2 (u2 (length frames) ++ text) >>= λ count. many_at (frame_at pool) count.0 count.1) (λ f. cond (eqb (length f.1) 0) (Some f.0) None) (frames, []) read
+    let read : frames_at pool (frames_text frames) ≡ Some (frames, []) =
+    ap (frames_at pool) (sym (append-nil (frames_text frames)))
+    ∙ counted_again (frame_at pool) frame_text (IsShortFrame pool) (frame_again pool) frames [] (both_of (IsFrame pool) HasFewTypes frames h few.1) few.0 in
+    bind_is (frames_at pool (frames_text frames)) (λ f. cond (eqb (length f.1) 0) (Some f.0) None) (frames, []) read

@@ -1,5 +1,4 @@
 pub mod Many
-pub mod Numbers
 pub mod FrameLaws
 pub mod AttrLaws
 pub mod FewLaws

@@ -5,7 +5,7 @@ use Rattle.std.specs.List.{AllByRecursion, flat_map}
 use Rattle.jv_pool.specs.PoolText.{u2, u4}
 use Rattle.jv_attr.specs.declared.attr.CodeAttr.{CodeAttr}
 use Rattle.jv_attr.specs.AttrText.{inner_text, IsInnerFew, IsInnerShort, handler_text, code_text, IsFewCode, IsShortCode}
-use Rattle.jv_attr.proofs.Many.{first_of_both, second_of_both}
+use Rattle.jv_read.proofs.Many.{first_of_both, second_of_both}
 
 -- what follows where a call succeeded
 pub map_ok : {T E : Type 0} (r : Result T E) (P Q : Type 0) → (P → Q) → OnOk r P → OnOk r Q

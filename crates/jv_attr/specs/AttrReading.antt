@@ -5,7 +5,7 @@ use Rattle.jv_table.specs.declared.class_tables.FrameGroup.TheVariants.{Same, Sa
 use Rattle.jv_types.specs.declared.raw_handler.RawHandler.{RawHandler}
 use Rattle.jv_pool.specs.declared.item.PoolItem.{PoolItem}
 use Rattle.jv_pool.specs.Lookups.{text_at}
-use Rattle.jv_pool.specs.Reading.{◌>>=◌, u1_at, u2_at, u4_at, bytes_at}
+use Rattle.jv_read.specs.Reading.{◌>>=◌, u1_at, u2_at, u4_at, bytes_at, many_at, counted_at}
 use Rattle.jv_attr.specs.declared.frame.MapType.{MapType}
 use Rattle.jv_attr.specs.declared.frame.MapFrame.{MapFrame}
 use Rattle.jv_attr.specs.declared.attr.Attr.{Attr}
@@ -17,7 +17,6 @@ use Rattle.jv_attr.specs.declared.owner.Owner as owners
 use Rattle.jv_attr.specs.declared.owner.Owner.TheVariants as owner
 use Rattle.jv_attr.specs.FrameText.{has_arg, group_of, is_typed}
 use Rattle.jv_attr.specs.AttrText.{is_code, is_maps, is_catch, has_maps}
-use Rattle.jv_attr.specs.Reading.{many_at}
 
 -- ---- frames
 
@@ -38,10 +37,8 @@ type_at pool bytes = do
 abbrev pub types_at : List PoolItem → ℕ → List ℕ → Option (List MapType × List ℕ)
 types_at pool count bytes = many_at (type_at pool) count bytes
 
-unfoldable pub counted_types_at : List PoolItem → List ℕ → Option (List MapType × List ℕ)
-counted_types_at pool bytes = do
-  count ← u2_at bytes
-  types_at pool count.0 count.1
+abbrev pub counted_types_at : List PoolItem → List ℕ → Option (List MapType × List ℕ)
+counted_types_at pool bytes = counted_at (type_at pool) bytes
 
 -- frames of the groups that have types
 unfoldable pub same_one_at : List PoolItem → ℕ → List ℕ → Option (MapFrame × List ℕ)
@@ -91,10 +88,8 @@ frame_at pool bytes = do
   parts_at pool group kind.0 kind.1
 
 -- a count, and as many frames
-unfoldable pub frames_at : List PoolItem → List ℕ → Option (List MapFrame × List ℕ)
-frames_at pool bytes = do
-  count ← u2_at bytes
-  many_at (frame_at pool) count.0 count.1
+abbrev pub frames_at : List PoolItem → List ℕ → Option (List MapFrame × List ℕ)
+frames_at pool bytes = counted_at (frame_at pool) bytes
 
 -- the same, where all of the bytes are read
 unfoldable pub maps_at : List PoolItem → List ℕ → Option (List MapFrame)
@@ -136,10 +131,8 @@ handler_at pool bytes = do
   catch ← u2_at target.1
   if is_catch pool catch.0 then Some (record { start = start.0; end = end.0; target = target.0; catch = catch.0 }, catch.1) else None
 
-unfoldable pub handlers_at : List PoolItem → List ℕ → Option (List RawHandler × List ℕ)
-handlers_at pool bytes = do
-  count ← u2_at bytes
-  many_at (handler_at pool) count.0 count.1
+abbrev pub handlers_at : List PoolItem → List ℕ → Option (List RawHandler × List ℕ)
+handlers_at pool bytes = counted_at (handler_at pool) bytes
 
 -- the bytes of a code, of which there are 1 to 65535
 unfoldable pub code_bytes_at : List ℕ → Option (List ℕ × List ℕ)
@@ -150,8 +143,7 @@ code_bytes_at bytes = do
 -- the attributes of a Code, at most one of which has frames
 unfoldable pub inners_at : List PoolItem → ℕ → List ℕ → Option (List (Attr NoCode) × List ℕ)
 inners_at pool major bytes = do
-  count ← u2_at bytes
-  attrs ← many_at (inner_at pool major) count.0 count.1
+  attrs ← counted_at (inner_at pool major) bytes
   if nat_le (count_by has_maps attrs.0) 1 then Some attrs else None
 
 -- the content of a Code

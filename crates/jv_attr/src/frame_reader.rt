@@ -2,14 +2,13 @@ ghost use Rattle.std.specs.Prelude.{◌≡◌, false};
 ghost use Rattle.std.specs.Option.{option_map, option_copied};
 ghost use Rattle.jv_pool.specs.Lookups.{names, is_class};
 ghost use Rattle.jv_attr.specs.FrameText.{has_arg, group_of, is_typed};
-ghost use Rattle.jv_attr.specs.Reading.{Gives, GivesAll, many_at};
+ghost use Rattle.jv_read.specs.Reading.{Gives, GivesAll};
 ghost use Rattle.jv_attr.specs.AttrReading.{arg_at, type_at, types_at, counted_types_at, same_one_at, same_one_extended_at, delta_at, append_at, full_at, parts_at, frame_at, frames_at, maps_at};
 
-use crate::fault::BadAttr;
 use crate::frame::{MapFrame, MapType};
-use crate::number::{read_u1, read_u2};
 use jv_bytes::Cursor;
 use jv_pool::{Pool, PoolItem};
+use jv_read::{Part, ReadFault, read_counted, read_many, read_u1, read_u2};
 use jv_table::{FrameGroup, frame_kind, type_tag};
 use jv_types::Seq;
 use std::alloc::Global;
@@ -45,7 +44,7 @@ pub fn group_of(kind: u8) -> Option<FrameGroup>
 
 /// The number behind a tag, and 0 where none is written.
 #[tactic(auto, unfolding(crate::specs::AttrReading::arg_at))]
-fn read_arg(cursor: &mut Cursor, written: bool) -> Result<u16, BadAttr>
+fn read_arg(cursor: &mut Cursor, written: bool) -> Result<u16, ReadFault>
     ensures { Gives (λ x. x) result cursor.new (arg_at written cursor.old) }
 {
     if written { read_u2(cursor) } else { Ok(0) }
@@ -53,18 +52,34 @@ fn read_arg(cursor: &mut Cursor, written: bool) -> Result<u16, BadAttr>
 
 /// A verification type (JVMS 4.7.4). The number of an object (tag 7) names a class.
 #[tactic(auto, unfolding(crate::specs::AttrReading::type_at))]
-fn read_type(cursor: &mut Cursor, pool: &Pool) -> Result<MapType, BadAttr>
+fn read_type(cursor: &mut Cursor, pool: &Pool) -> Result<MapType, ReadFault>
     ensures { Gives (λ x. x) result cursor.new (type_at pool.now cursor.old) }
 {
     let tag = read_u1(cursor)?;
     let Some(written) = has_arg(tag) else {
-        return Err(BadAttr::Bad);
+        return Err(ReadFault::Bad);
     };
     let arg = read_arg(cursor, written)?;
     if tag == 7 && !names_class(pool, arg) {
-        return Err(BadAttr::Bad);
+        return Err(ReadFault::Bad);
     }
     Ok(MapType { tag, arg })
+}
+
+/// Verification types, read one by one.
+#[derive(Clone, Copy)]
+struct TypePart<'p> {
+    pool: &'p Pool,
+}
+
+impl Part for TypePart<'_> {
+    type Item = MapType;
+
+    ghost part_at = { λ p bytes. type_at p.pool.now bytes };
+
+    fn read(&self, cursor: &mut Cursor) -> Result<MapType, ReadFault> {
+        read_type(cursor, self.pool)
+    }
 }
 
 /// As many verification types.
@@ -73,28 +88,23 @@ fn read_types(
     cursor: &mut Cursor,
     pool: &Pool,
     count: u16,
-) -> Result<Seq<MapType>, BadAttr>
+) -> Result<Seq<MapType>, ReadFault>
     ensures { Gives (λ x. x) result cursor.new (types_at pool.now count cursor.old) }
 {
-    let mut types = Vec::new(alloc);
-    for _ in 0..count {
-        let item = read_type(cursor, pool)?;
-        types.push(item)?;
-    }
+    let types = read_many(alloc, cursor, &TypePart { pool }, u64::from(count))?;
     Ok(Seq::from_vec(types))
 }
 
 /// A count, and as many verification types.
-#[tactic(auto, unfolding(crate::specs::AttrReading::counted_types_at))]
 fn read_counted_types(
     alloc: Global,
     cursor: &mut Cursor,
     pool: &Pool,
-) -> Result<Seq<MapType>, BadAttr>
+) -> Result<Seq<MapType>, ReadFault>
     ensures { Gives (λ x. x) result cursor.new (counted_types_at pool.now cursor.old) }
 {
-    let count = read_u2(cursor)?;
-    read_types(alloc, cursor, pool, count)
+    let types = read_counted(alloc, cursor, &TypePart { pool })?;
+    Ok(Seq::from_vec(types))
 }
 
 /// A frame without a delta, which has one type on the stack.
@@ -104,7 +114,7 @@ fn read_same_one(
     cursor: &mut Cursor,
     pool: &Pool,
     kind: u8,
-) -> Result<MapFrame, BadAttr>
+) -> Result<MapFrame, ReadFault>
     ensures { Gives (λ x. x) result cursor.new (same_one_at pool.now kind cursor.old) }
 {
     let stack = read_types(alloc, cursor, pool, 1)?;
@@ -123,7 +133,7 @@ fn read_same_one_extended(
     cursor: &mut Cursor,
     pool: &Pool,
     kind: u8,
-) -> Result<MapFrame, BadAttr>
+) -> Result<MapFrame, ReadFault>
     ensures { Gives (λ x. x) result cursor.new (same_one_extended_at pool.now kind cursor.old) }
 {
     let delta = read_u2(cursor)?;
@@ -138,7 +148,7 @@ fn read_same_one_extended(
 
 /// A frame that has a delta alone.
 #[tactic(auto, unfolding(crate::specs::AttrReading::delta_at))]
-fn read_delta(alloc: Global, cursor: &mut Cursor, kind: u8) -> Result<MapFrame, BadAttr>
+fn read_delta(alloc: Global, cursor: &mut Cursor, kind: u8) -> Result<MapFrame, ReadFault>
     ensures { Gives (λ x. x) result cursor.new (delta_at kind cursor.old) }
 {
     let delta = read_u2(cursor)?;
@@ -157,7 +167,7 @@ fn read_append(
     cursor: &mut Cursor,
     pool: &Pool,
     kind: u8,
-) -> Result<MapFrame, BadAttr>
+) -> Result<MapFrame, ReadFault>
     ensures { Gives (λ x. x) result cursor.new (append_at pool.now kind cursor.old) }
 {
     let delta = read_u2(cursor)?;
@@ -173,7 +183,12 @@ fn read_append(
 
 /// A frame that has everything.
 #[tactic(auto, unfolding(crate::specs::AttrReading::full_at))]
-fn read_full(alloc: Global, cursor: &mut Cursor, pool: &Pool, kind: u8) -> Result<MapFrame, BadAttr>
+fn read_full(
+    alloc: Global,
+    cursor: &mut Cursor,
+    pool: &Pool,
+    kind: u8,
+) -> Result<MapFrame, ReadFault>
     ensures { Gives (λ x. x) result cursor.new (full_at pool.now kind cursor.old) }
 {
     let delta = read_u2(cursor)?;
@@ -195,7 +210,7 @@ fn read_parts(
     pool: &Pool,
     group: FrameGroup,
     kind: u8,
-) -> Result<MapFrame, BadAttr>
+) -> Result<MapFrame, ReadFault>
     ensures { Gives (λ x. x) result cursor.new (parts_at pool.now group kind cursor.old) }
 {
     match group {
@@ -215,51 +230,50 @@ fn read_parts(
 
 /// A frame (JVMS 4.7.4).
 #[tactic(auto, unfolding(crate::specs::AttrReading::frame_at))]
-fn read_frame(alloc: Global, cursor: &mut Cursor, pool: &Pool) -> Result<MapFrame, BadAttr>
+fn read_frame(alloc: Global, cursor: &mut Cursor, pool: &Pool) -> Result<MapFrame, ReadFault>
     ensures { Gives (λ x. x) result cursor.new (frame_at pool.now cursor.old) }
 {
     let kind = read_u1(cursor)?;
     let Some(group) = group_of(kind) else {
-        return Err(BadAttr::Bad);
+        return Err(ReadFault::Bad);
     };
     read_parts(alloc, cursor, pool, group, kind)
 }
 
-/// As many frames.
-fn read_many_frames(
+/// Frames, read one by one.
+#[derive(Clone, Copy)]
+struct FramePart<'p> {
     alloc: Global,
-    cursor: &mut Cursor,
-    pool: &Pool,
-    count: u16,
-) -> Result<Seq<MapFrame>, BadAttr>
-    ensures { Gives (λ x. x) result cursor.new (many_at (frame_at pool.now) count cursor.old) }
-{
-    let mut frames = Vec::new(alloc);
-    for _ in 0..count {
-        let frame = read_frame(alloc, cursor, pool)?;
-        frames.push(frame)?;
+    pool: &'p Pool,
+}
+
+impl Part for FramePart<'_> {
+    type Item = MapFrame;
+
+    ghost part_at = { λ p bytes. frame_at p.pool.now bytes };
+
+    fn read(&self, cursor: &mut Cursor) -> Result<MapFrame, ReadFault> {
+        read_frame(self.alloc, cursor, self.pool)
     }
-    Ok(Seq::from_vec(frames))
 }
 
 /// A count, and as many frames.
-#[tactic(auto, unfolding(crate::specs::AttrReading::frames_at))]
-fn read_frames(alloc: Global, cursor: &mut Cursor, pool: &Pool) -> Result<Seq<MapFrame>, BadAttr>
+fn read_frames(alloc: Global, cursor: &mut Cursor, pool: &Pool) -> Result<Seq<MapFrame>, ReadFault>
     ensures { Gives (λ x. x) result cursor.new (frames_at pool.now cursor.old) }
 {
-    let count = read_u2(cursor)?;
-    read_many_frames(alloc, cursor, pool, count)
+    let frames = read_counted(alloc, cursor, &FramePart { alloc, pool })?;
+    Ok(Seq::from_vec(frames))
 }
 
 /// The frames that are all of a content.
 #[tactic(auto, unfolding(crate::specs::AttrReading::maps_at))]
-pub fn read_maps(alloc: Global, content: &[u8], pool: &Pool) -> Result<Seq<MapFrame>, BadAttr>
+pub fn read_maps(alloc: Global, content: &[u8], pool: &Pool) -> Result<Seq<MapFrame>, ReadFault>
     ensures { GivesAll (λ x. x) result (maps_at pool.now content.now) }
 {
     let mut cursor = Cursor::new(content);
     let frames = read_frames(alloc, &mut cursor, pool)?;
     if cursor.left() != 0 {
-        return Err(BadAttr::Bad);
+        return Err(ReadFault::Bad);
     }
     Ok(frames)
 }

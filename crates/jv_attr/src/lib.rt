@@ -6,7 +6,6 @@ mod fault;
 mod few;
 mod frame;
 mod frame_reader;
-mod number;
 mod owner;
 mod reader;
 mod write;

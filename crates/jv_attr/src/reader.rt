@@ -4,16 +4,16 @@ ghost use Rattle.jv_attr.specs.declared.attr.Attr.{Attr};
 ghost use Rattle.jv_attr.specs.declared.attr.CodeAttr.{CodeAttr};
 ghost use Rattle.jv_attr.specs.declared.owner.Owner as owners;
 ghost use Rattle.jv_attr.specs.AttrText.{is_code, is_maps, is_catch, has_maps, IsAttrText, BeginsWithAttr};
-ghost use Rattle.jv_attr.specs.Reading.{Gives, GivesAll, many_at};
+ghost use Rattle.jv_read.specs.Reading.{Gives, GivesAll};
 ghost use Rattle.jv_attr.specs.AttrReading.{head_at, other_at, inner_at, handler_at, handlers_at, code_bytes_at, inners_at, code_at, whole_code_at, body_at, attr_at};
 
 use crate::attr::{Attr, AttrBody, CodeAttr, NoCode};
 use crate::fault::BadAttr;
 use crate::frame_reader::{names_class, read_maps};
-use crate::number::{read_bytes, read_u2, read_u4};
 use crate::owner::Owner;
 use jv_bytes::Cursor;
 use jv_pool::Pool;
+use jv_read::{Part, ReadFault, read_bytes, read_counted, read_u2, read_u4};
 use jv_types::{RawHandler, Seq};
 use std::alloc::Global;
 
@@ -50,12 +50,12 @@ fn is_maps(owner: Owner, major: u16, name: &[u8]) -> bool
 
 /// A name with its text, and a content (JVMS 4.7).
 #[tactic(auto, unfolding(crate::specs::AttrReading::head_at))]
-fn read_head<'p, 'a>(cursor: &mut Cursor<'a>, pool: &'p Pool) -> Result<Head<'p, 'a>, BadAttr>
+fn read_head<'p, 'a>(cursor: &mut Cursor<'a>, pool: &'p Pool) -> Result<Head<'p, 'a>, ReadFault>
     ensures { Gives (λ h. (h.name, h.text.now, h.content.now)) result cursor.new (head_at pool.now cursor.old) }
 {
     let name = read_u2(cursor)?;
     let Some(text) = pool.utf8(name) else {
-        return Err(BadAttr::Bad);
+        return Err(ReadFault::Bad);
     };
     let len = read_u4(cursor)?;
     let content = read_bytes(cursor, len as usize)?;
@@ -73,7 +73,7 @@ fn read_other<C: Drop>(
     content: &[u8],
     pool: &Pool,
     as_maps: bool,
-) -> Result<AttrBody<C>, BadAttr>
+) -> Result<AttrBody<C>, ReadFault>
     ensures { GivesAll (λ x. x) result (other_at pool.now as_maps content.now) }
 {
     if as_maps {
@@ -91,7 +91,7 @@ fn read_inner(
     cursor: &mut Cursor,
     pool: &Pool,
     major: u16,
-) -> Result<Attr<NoCode>, BadAttr>
+) -> Result<Attr<NoCode>, ReadFault>
     ensures { Gives (λ x. x) result cursor.new (inner_at pool.now major cursor.old) }
 {
     let head = read_head(cursor, pool)?;
@@ -103,22 +103,22 @@ fn read_inner(
     })
 }
 
-/// As many attributes of a `Code`.
-fn read_many_inners(
+/// The attributes of a `Code`, read one by one.
+#[derive(Clone, Copy)]
+struct InnerPart<'p> {
     alloc: Global,
-    cursor: &mut Cursor,
-    pool: &Pool,
+    pool: &'p Pool,
     major: u16,
-    count: u16,
-) -> Result<Seq<Attr<NoCode>>, BadAttr>
-    ensures { Gives (λ x. x) result cursor.new (many_at (inner_at pool.now major) count cursor.old) }
-{
-    let mut attrs = Vec::new(alloc);
-    for _ in 0..count {
-        let attr = read_inner(alloc, cursor, pool, major)?;
-        attrs.push(attr)?;
+}
+
+impl Part for InnerPart<'_> {
+    type Item = Attr<NoCode>;
+
+    ghost part_at = { λ p bytes. inner_at p.pool.now p.major bytes };
+
+    fn read(&self, cursor: &mut Cursor) -> Result<Attr<NoCode>, ReadFault> {
+        read_inner(self.alloc, cursor, self.pool, self.major)
     }
-    Ok(Seq::from_vec(attrs))
 }
 
 /// Whether an attribute has frames.
@@ -142,15 +142,15 @@ fn read_inners(
     cursor: &mut Cursor,
     pool: &Pool,
     major: u16,
-) -> Result<Seq<Attr<NoCode>>, BadAttr>
+) -> Result<Seq<Attr<NoCode>>, ReadFault>
     ensures { Gives (λ x. x) result cursor.new (inners_at pool.now major cursor.old) }
 {
-    let count = read_u2(cursor)?;
-    let attrs = read_many_inners(alloc, cursor, pool, major, count)?;
-    if count_maps(attrs.as_slice()) > 1 {
-        return Err(BadAttr::Bad);
+    let part = InnerPart { alloc, pool, major };
+    let attrs = read_counted(alloc, cursor, &part)?;
+    if count_maps(&attrs) > 1 {
+        return Err(ReadFault::Bad);
     }
-    Ok(attrs)
+    Ok(Seq::from_vec(attrs))
 }
 
 /// Whether a catch type is 0 or names a class.
@@ -162,7 +162,7 @@ fn is_catch(pool: &Pool, catch: u16) -> bool
 
 /// A handler (JVMS 4.7.3).
 #[tactic(auto, unfolding(crate::specs::AttrReading::handler_at))]
-fn read_handler(cursor: &mut Cursor, pool: &Pool) -> Result<RawHandler, BadAttr>
+fn read_handler(cursor: &mut Cursor, pool: &Pool) -> Result<RawHandler, ReadFault>
     ensures { Gives (λ x. x) result cursor.new (handler_at pool.now cursor.old) }
 {
     let start = read_u2(cursor)?;
@@ -170,7 +170,7 @@ fn read_handler(cursor: &mut Cursor, pool: &Pool) -> Result<RawHandler, BadAttr>
     let target = read_u2(cursor)?;
     let catch = read_u2(cursor)?;
     if !is_catch(pool, catch) {
-        return Err(BadAttr::Bad);
+        return Err(ReadFault::Bad);
     }
     Ok(RawHandler {
         start,
@@ -180,44 +180,42 @@ fn read_handler(cursor: &mut Cursor, pool: &Pool) -> Result<RawHandler, BadAttr>
     })
 }
 
-/// As many handlers.
-fn read_many_handlers(
-    alloc: Global,
-    cursor: &mut Cursor,
-    pool: &Pool,
-    count: u16,
-) -> Result<Seq<RawHandler>, BadAttr>
-    ensures { Gives (λ x. x) result cursor.new (many_at (handler_at pool.now) count cursor.old) }
-{
-    let mut handlers = Vec::new(alloc);
-    for _ in 0..count {
-        let handler = read_handler(cursor, pool)?;
-        handlers.push(handler)?;
+/// Handlers, read one by one.
+#[derive(Clone, Copy)]
+struct HandlerPart<'p> {
+    pool: &'p Pool,
+}
+
+impl Part for HandlerPart<'_> {
+    type Item = RawHandler;
+
+    ghost part_at = { λ p bytes. handler_at p.pool.now bytes };
+
+    fn read(&self, cursor: &mut Cursor) -> Result<RawHandler, ReadFault> {
+        read_handler(cursor, self.pool)
     }
-    Ok(Seq::from_vec(handlers))
 }
 
 /// A count, and as many handlers.
-#[tactic(auto, unfolding(crate::specs::AttrReading::handlers_at))]
 fn read_handlers(
     alloc: Global,
     cursor: &mut Cursor,
     pool: &Pool,
-) -> Result<Seq<RawHandler>, BadAttr>
+) -> Result<Seq<RawHandler>, ReadFault>
     ensures { Gives (λ x. x) result cursor.new (handlers_at pool.now cursor.old) }
 {
-    let count = read_u2(cursor)?;
-    read_many_handlers(alloc, cursor, pool, count)
+    let handlers = read_counted(alloc, cursor, &HandlerPart { pool })?;
+    Ok(Seq::from_vec(handlers))
 }
 
 /// The bytes of a code, of which there are 1 to 65535.
 #[tactic(auto, unfolding(crate::specs::AttrReading::code_bytes_at))]
-fn read_code_bytes(alloc: Global, cursor: &mut Cursor) -> Result<Seq<u8>, BadAttr>
+fn read_code_bytes(alloc: Global, cursor: &mut Cursor) -> Result<Seq<u8>, ReadFault>
     ensures { Gives (λ x. x) result cursor.new (code_bytes_at cursor.old) }
 {
     let len = read_u4(cursor)?;
     if len == 0 || len > 65535 {
-        return Err(BadAttr::Bad);
+        return Err(ReadFault::Bad);
     }
     let bytes = read_bytes(cursor, len as usize)?;
     Ok(Seq::from_vec(Vec::from_slice(alloc, bytes)?))
@@ -230,7 +228,7 @@ fn read_code(
     cursor: &mut Cursor,
     pool: &Pool,
     major: u16,
-) -> Result<CodeAttr, BadAttr>
+) -> Result<CodeAttr, ReadFault>
     ensures { Gives (λ x. x) result cursor.new (code_at pool.now major cursor.old) }
 {
     let max_stack = read_u2(cursor)?;
@@ -254,13 +252,13 @@ fn read_whole_code(
     content: &[u8],
     pool: &Pool,
     major: u16,
-) -> Result<CodeAttr, BadAttr>
+) -> Result<CodeAttr, ReadFault>
     ensures { GivesAll (λ x. x) result (whole_code_at pool.now major content.now) }
 {
     let mut cursor = Cursor::new(content);
     let code = read_code(alloc, &mut cursor, pool, major)?;
     if cursor.left() != 0 {
-        return Err(BadAttr::Bad);
+        return Err(ReadFault::Bad);
     }
     Ok(code)
 }
@@ -274,7 +272,7 @@ fn read_body(
     major: u16,
     as_code: bool,
     as_maps: bool,
-) -> Result<AttrBody, BadAttr>
+) -> Result<AttrBody, ReadFault>
     ensures { GivesAll (λ x. x) result (body_at pool.now major as_code as_maps content.now) }
 {
     if as_code {
@@ -292,7 +290,7 @@ fn read_any(
     pool: &Pool,
     owner: Owner,
     major: u16,
-) -> Result<Attr, BadAttr>
+) -> Result<Attr, ReadFault>
     ensures { Gives (λ x. x) result cursor.new (attr_at pool.now owner major cursor.old) }
 {
     let head = read_head(cursor, pool)?;
@@ -320,7 +318,11 @@ pub fn read_attr(
     ensures found { IfOk result (λ attr. BeginsWithAttr pool.now owner major cursor.old attr cursor.new) }
     ensures bad { result ≡ Err BadAttr.Bad → (attr : Attr CodeAttr) (rest : List ℕ) → BeginsWithAttr pool.now owner major cursor.old attr rest → ⊥ }
 {
-    read_any(alloc, cursor, pool, owner, major)
+    match read_any(alloc, cursor, pool, owner, major) {
+        Ok(attr) => Ok(attr),
+        Err(ReadFault::Bad) => Err(BadAttr::Bad),
+        Err(ReadFault::Memory) => Err(BadAttr::Memory),
+    }
 }
 
 /// Over one pool, for one owner and version: no bytes are the text of two attributes, no attribute has two

@@ -1,9 +1,9 @@
 -- The laws of reading, at the bytes that were left.
-use Rattle.jv_attr.proofs.AttrLaws.{is_found, is_bad}
+use Rattle.jv_attr.proofs.AttrLaws.{attr_takes, is_refused}
 use Rattle.jv_attr.proofs.reader.read_attr.Goals as goal
 
-pub returns-clause-found : goal.returns-clause-found
-returns-clause-found c = is_found c.args.pool.now c.args.owner c.args.major c.args.cursor.now c.read_any.new.cursor c.read_any.result c.read_any.ensures
+pub returns-in-Ok-clause-found : goal.returns-in-Ok-clause-found
+returns-in-Ok-clause-found c = attr_takes c.args.pool.now c.args.owner c.args.major c.args.cursor.now (c.in-Ok.attr, c.read_any.new.cursor) c.in-Ok.ensures
 
-pub returns-clause-bad : goal.returns-clause-bad
-returns-clause-bad c = is_bad c.args.pool.now c.args.owner c.args.major c.args.cursor.now c.read_any.new.cursor c.read_any.result c.read_any.ensures
+pub returns-in-Err-Bad-clause-bad : goal.returns-in-Err-Bad-clause-bad
+returns-in-Err-Bad-clause-bad c = λ _. is_refused c.args.pool.now c.args.owner c.args.major c.args.cursor.now (rw c.in-Err-Bad.field-0-is at c.in-Err-Bad.ensures)

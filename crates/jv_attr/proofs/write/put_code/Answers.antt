@@ -6,7 +6,7 @@ use Rattle.jv_pool.specs.PoolText.{u2, u4}
 use Rattle.jv_attr.specs.declared.attr.Attr.{Attr}
 use Rattle.std.specs.declared.convert.Infallible.{Infallible as NoCode}
 use Rattle.jv_attr.specs.AttrText.{inner_text, handler_text, code_text, IsInnerFew, IsInnerShort, IsFewCode, IsShortCode}
-use Rattle.jv_attr.proofs.Many.{both_of}
+use Rattle.jv_read.proofs.Many.{both_of}
 use Rattle.jv_attr.proofs.WriteLaws.{map_ok, Steps, code_written}
 use Rattle.jv_attr.proofs.write.put_code.Goals as goal
 
