@@ -12,3 +12,4 @@ pub mod KeptLemmas
 pub mod NumberedTexts
 pub mod DistinctMembers
 pub mod WholeTexts
+pub mod CodesOfMethods

@@ -7,6 +7,7 @@ pub mod Kinds
 pub mod TextNumbers
 pub mod PoolTexts
 pub mod MemberPairs
+pub mod MethodCodes
 pub mod RuleParts
 pub mod Shapes
 pub mod Writing

@@ -13,6 +13,7 @@ pub mod laws;
 mod layout;
 mod member_rules;
 mod members;
+mod method_codes;
 mod number;
 mod read;
 mod rules;
@@ -24,6 +25,7 @@ mod write;
 
 pub use class_file::{ClassFile, Member};
 pub use fault::{BadClass, WriteRefusal};
+pub use method_codes::{method_code, shapes_have_code_where_methods_do};
 pub use read::read_class;
 pub use shaping::shape;
 pub use write::write_class;
