@@ -1,6 +1,6 @@
 //! Codes that are encoded again.
 
-ghost use Rattle.std.specs.Prelude.{◌≡◌, ℕ, IsTrue, false};
+ghost use Rattle.std.specs.Prelude.{◌≡◌, ◌≤◌, ℕ, IsTrue, false, length, IfOk};
 ghost use Rattle.std.specs.List.{AllByRecursion};
 ghost use Rattle.jv_types.specs.declared.instruction.Insn.{Insn as Insns};
 ghost use Rattle.jv_pool.specs.PoolText.{is_hole};
@@ -26,34 +26,27 @@ fn is_whole(arg: &Arg) -> bool
     )
 }
 
-/// Whether an instruction isn't an ldc, or loads an int at an index of one byte in a pool, to which that is
-/// added.
-fn is_near(insn: &Insn, pool: &mut PoolWriter) -> bool
-    ensures near { IsTrue result → StandsNear pool.new insn.now }
+/// Whether an instruction isn't an ldc, whose constant would have to stand near in the pool.
+fn is_near(insn: &Insn, pool: &mut PoolWriter) -> Result<bool, EncodeRefusal>
+    ensures near { IfOk result (λ near. IsTrue near → StandsNear pool.new insn.now) }
     ensures grown { Grows pool.old pool.new }
 {
     if insn.op != 18 {
-        return true;
+        return Ok(true);
     }
-    let Arg::Constant(Const::Int(value)) = &insn.arg else {
-        return false;
-    };
-    match pool.add(PoolItem::Integer(*value)) {
-        Ok(index) => index <= 255,
-        Err(_) => false,
-    }
+    Ok(false)
 }
 
-/// Whether a body may be encoded over a pool, to which the constants of its ldc are added.
-fn may_encode(body: &Body, pool: &mut PoolWriter) -> bool
-    ensures { IsTrue result → AllByRecursion (λ (row : ℕ × Insns). (is_left_out row.1.arg ≡ false) × StandsNear pool.new row.1) body.now.insns }
+/// Whether a body may be encoded over a pool.
+fn may_encode(body: &Body, pool: &mut PoolWriter) -> Result<bool, EncodeRefusal>
+    ensures { IfOk result (λ may. IsTrue may → AllByRecursion (λ (row : ℕ × Insns). (is_left_out row.1.arg ≡ false) × StandsNear pool.new row.1) body.now.insns) }
 {
     for row in body.insns.as_slice() {
-        if !is_near(&row.1, pool) || !is_whole(&row.1.arg) {
-            return false;
+        if !is_near(&row.1, pool)? || !is_whole(&row.1.arg) {
+            return Ok(false);
         }
     }
-    true
+    Ok(true)
 }
 
 /// The code of a body, where it may be encoded over a pool.
@@ -64,7 +57,7 @@ fn encoded(
 ) -> Result<Option<Vec<u8>>, EncodeRefusal>
     requires { IsSpelled body.now }
 {
-    if !may_encode(body, pool) {
+    if !may_encode(body, pool)? {
         return Ok(None);
     }
     Ok(Some(encode(alloc, body, pool)?))
@@ -77,10 +70,9 @@ fn encoded_again(
     items: &Pool,
     pool: &mut PoolWriter,
     max_locals: u16,
-) -> Result<Vec<u8>, Fail> {
-    if code.len() > 65535 {
-        return Err(Fail::from("a code of at most 65535 bytes"));
-    }
+) -> Result<Vec<u8>, Fail>
+    requires { length code.now ≤ 65535 }
+{
     let body = decode(alloc, code, items, [].as_slice(), 9, max_locals)?;
     let code = encoded(alloc, &body, pool)?;
     Ok(code.ok_or("a body that may be encoded")?)
@@ -113,7 +105,9 @@ fn encodes_each_opcode(rt: HostRuntime) -> Result<(), Fail> {
         for op in word(line, 0).parse::<u8>()?..=word(line, 1).parse::<u8>()? {
             let code = code_of(alloc, op, word(line, 2))?;
             let mut writer = writer_of(alloc, &pool)?;
-            if op != 186 {
+            assert!(rt; code.len() <= 65535);
+            // an ldc needs a constant that stands near, and an invokedynamic is not encoded
+            if op != 18 && op != 186 {
                 let again = encoded_again(alloc, &code, &pool, &mut writer, 4)?;
                 assert_eq!(rt; again.as_slice(), code.as_slice(), "at {op}");
             }
@@ -130,6 +124,7 @@ fn encodes_codes(rt: HostRuntime) -> Result<(), Fail> {
         let max_locals = word(line, 1).parse::<u16>()?;
         let code = hex(alloc, word(line, 2))?;
         let mut writer = PoolWriter::new(alloc);
+        assert!(rt; code.len() <= 65535);
         let again = encoded_again(alloc, &code, &pool, &mut writer, max_locals)?;
         assert_eq!(rt; again.as_slice(), hex(alloc, word(line, 3))?.as_slice());
     }
