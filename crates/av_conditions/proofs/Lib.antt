@@ -1,0 +1,7 @@
+mod Answering
+mod Entering
+mod PlainMethods
+mod Renumbered
+mod RightKinds
+mod Standing
+mod Typing

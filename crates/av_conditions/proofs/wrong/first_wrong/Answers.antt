@@ -1,0 +1,11 @@
+use Rattle.av_conditions.proofs.Standing.{first_is, all_are}
+use Rattle.av_conditions.proofs.wrong.first_wrong.Goals as goal
+
+pub returns-then-not-branch-clause-found : goal.returns-then-not-branch-clause-found
+returns-then-not-branch-clause-found c =
+    first_is c.args.world.now c.args.body.now c.as_slice-insns.result.now c.loop-row.row-index c.row-item.result c.in_ok-is_right_insn.field-0 c.as_slice-insns.ensures c.loop-row-test.true c.row-item.is
+    c.in_ok-is_right_insn.ensures.1 c.if-not-branch.true c.loop-row.invariant
+
+pub returns-clause-none : goal.returns-clause-none
+returns-clause-none c =
+    all_are c.args.world.now c.args.body.now c.as_slice-insns.result.now c.loop-row.row-index c.as_slice-insns.ensures c.loop-row-test.false c.loop-row.invariant

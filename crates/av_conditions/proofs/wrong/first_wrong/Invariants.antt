@@ -1,0 +1,5 @@
+use Rattle.av_conditions.proofs.Standing.{AreRightBefore}
+use Rattle.av_conditions.proofs.wrong.first_wrong.Given as goal
+
+abbrev pub invariant-loop-row : goal.invariant-loop-row
+invariant-loop-row l = AreRightBefore l.world l.insns l.row-index

@@ -1,0 +1,7 @@
+pub mod Conditions
+pub mod CoreClasses
+pub mod Initialisers
+pub mod Members
+pub mod Renumbering
+pub mod RightReferences
+pub mod StandIn

@@ -1,0 +1,17 @@
+//! What the crates that run and analyse methods ask of a world and of methods, as definitions on plain data,
+//! with the calls that decide it.
+#![tactic(auto)]
+
+mod core_classes;
+mod initialisers;
+mod laws;
+mod members;
+mod operands;
+mod types;
+mod wrong;
+
+pub use core_classes::is_as_core;
+pub use initialisers::initialisers_of;
+pub use laws::subtypes_agree;
+pub use members::{resolved_call, resolved_field};
+pub use wrong::{first_wrong, is_right_insn};
