@@ -1,7 +1,7 @@
 ghost use Rattle.std.specs.Prelude.{◌≡◌, IfSome, IfNone};
 ghost use Rattle.jv_insn.specs.Meanings.{is_two};
 ghost use Rattle.jv_insn.specs.Effects.{is_load, is_store, local_of};
-ghost use Rattle.jv_frames.specs.Typing.{has_operands, IsWordInsn};
+ghost use Rattle.jv_typing.specs.Typing.{has_operands, IsWordInsn};
 ghost use Rattle.jv_verify_words.specs.Parts.{IsWordRow, AreCellsOf};
 
 use jv_table::{Cell, Form, Kind, OpRow, opcode};

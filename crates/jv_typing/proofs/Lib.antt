@@ -1,0 +1,6 @@
+mod Moves
+pub mod TypingOnce
+pub mod Popping
+pub mod Transiting
+mod ReferencesOnce
+mod Storing
