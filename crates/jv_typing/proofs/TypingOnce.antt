@@ -22,10 +22,10 @@ use Rattle.jv_types.specs.declared.instruction.Arg.TheVariants as args
 use Rattle.jv_types.specs.declared.instruction.Insn.{Insn}
 use Rattle.jv_types.specs.declared.frames.VType.{VType}
 use Rattle.jv_types.specs.declared.frames.Frame.{Frame}
-use Rattle.jv_insn.specs.Meanings.{is_two}
+use Rattle.jv_insn.specs.Forms.{is_category_2}
 use Rattle.jv_insn.specs.Effects.{Shuffle, effect_of, op_row, row_gives, const_cell, cells_given, is_store, local_of}
 use Rattle.jv_insn.specs.Kinds.{HoldsCell, HoldsCells, EndsWithCells, cell_words}
-use Rattle.jv_typing.specs.Typing.{has_two, has_operands, IsWordInsn, AreStored, StoresWhere, halved, IsWordTyping, IsMoveTyping, in_order}
+use Rattle.jv_typing.specs.Typing.{is_load_two_form, has_operands, IsWordInsn, AreStored, StoresWhere, halved, IsWordTyping, IsMoveTyping, in_order}
 
 -- ---- lists that are parted at the same place
 
@@ -141,15 +141,15 @@ word_row_numbers : (row : OpForm) → row.kind ≡ kinds.Word → row_numbers ro
 word_row_numbers row e n = rw e at n
 
 -- the number that a load of two words gives
-two_is_number : (constant : Const) → is_two constant ≡ true → is_number (const_cell constant) ≡ true
-two_is_number (consts.Long value) two = refl
-two_is_number (consts.Double bits) two = refl
-two_is_number (consts.Int value) two = absurd cc
-two_is_number (consts.Float bits) two = absurd cc
-two_is_number consts.Text two = absurd cc
-two_is_number (consts.Class type) two = absurd cc
-two_is_number consts.Handle two = absurd cc
-two_is_number consts.MethodKind two = absurd cc
+category_2_is_number : (constant : Const) → is_category_2 constant ≡ true → is_number (const_cell constant) ≡ true
+category_2_is_number (consts.Long value) two = refl
+category_2_is_number (consts.Double bits) two = refl
+category_2_is_number (consts.Int value) two = absurd cc
+category_2_is_number (consts.Float bits) two = absurd cc
+category_2_is_number consts.Text two = absurd cc
+category_2_is_number (consts.Class type) two = absurd cc
+category_2_is_number consts.Handle two = absurd cc
+category_2_is_number consts.MethodKind two = absurd cc
 
 -- what the operands let be given, where they are those of words
 by_operands : (form : Form) (op : ℕ) (arg : Arg) → has_operands form arg ≡ true → are_numbers (row_gives (op_row op)) ≡ true → are_numbers (cells_given op arg) ≡ true
@@ -164,8 +164,8 @@ by_operands form op (args.Jump target) h n = n
 by_operands form op (args.Table default low targets) h n = n
 by_operands form op (args.Lookup default cases) h n = n
 by_operands form op (args.Constant constant) h n =
-    let two = and_parts (is_two constant) (has_two form) h in
-    let number = two_is_number constant two.0 in
+    let two = and_parts (is_category_2 constant) (is_load_two_form form) h in
+    let number = category_2_is_number constant two.0 in
     rw number refl
 by_operands form op (args.Field field) h n = absurd cc
 by_operands form op (args.Method method) h n = absurd cc

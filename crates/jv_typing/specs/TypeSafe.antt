@@ -12,6 +12,7 @@ use Rattle.jv_types.specs.declared.frames.Frame.{Frame}
 use Rattle.jv_types.specs.declared.frames.FramedBody.{FramedBody}
 use Rattle.jv_world.specs.Instances.{IsSubNamed}
 use Rattle.jv_insn.specs.Effects.{is_end}
+use Rattle.jv_insn.specs.Forms.{HasOwnOperands}
 use Rattle.jv_insn.specs.KindSafe.{Covers}
 use Rattle.jv_frames.specs.Assignable.{IsFrameAssignable}
 use Rattle.jv_frames.specs.Entry.{IsInitialFrame}
@@ -65,10 +66,12 @@ pub record BeginsRight (w : List Shape) (method : MethodId) (body : Body) (maps 
   pub fits : IsFrameAssignable w initial first
   pub same : at_offset 0 maps ≡ None → first ≡ initial
 
--- An instruction is typed on its frame, and what it leaves fits where it goes. Where no map stands at the next
+-- An instruction has the operands of its opcode's layout, is typed on its frame, and what it leaves fits where
+-- it goes. Where no map stands at the next
 -- instruction the frame there is what it leaves; behind a goto, a switch, a return or an athrow a map stands,
 -- or the code ends.
 pub record IsTypedAt (w : List Shape) (method : MethodId) (body : Body) (maps frames : List (ℕ × Frame)) (pc : ℕ) (insn : Insn) (frame : Frame) : Type 0 where
+  pub operands : HasOwnOperands insn
   pub after : Frame
   pub typing : StepTyping w (site_at method body pc) frame insn after
   pub goes : FitsWhereItGoes w body (λ place there. at_offset place frames ≡ Some there) pc insn frame after

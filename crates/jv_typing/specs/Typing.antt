@@ -12,57 +12,57 @@ use Rattle.jv_types.specs.declared.instruction.Arg.TheVariants as args
 use Rattle.jv_types.specs.declared.instruction.Insn.{Insn}
 use Rattle.jv_types.specs.declared.frames.VType.{VType, Top}
 use Rattle.jv_types.specs.declared.frames.Frame.{Frame}
-use Rattle.jv_insn.specs.Meanings.{is_two}
+use Rattle.jv_insn.specs.Forms.{is_category_2}
 use Rattle.jv_insn.specs.Effects.{Shuffle, effect_of, op_row, shuffle_of, is_store, local_of}
 use Rattle.jv_insn.specs.Kinds.{HoldsCells, EndsWithCells, is_wide}
 use Rattle.jv_insn.specs.KindSafe.{LocalHolds}
 
 -- ---- the instructions
 
-abbrev pub has_nothing : Form → Bool
-has_nothing forms.Nothing = true
-has_nothing _ = false
+abbrev pub is_empty_form : Form → Bool
+is_empty_form forms.Nothing = true
+is_empty_form _ = false
 
-abbrev pub has_local : Form → Bool
-has_local forms.Local = true
-has_local _ = false
+abbrev pub is_local_form : Form → Bool
+is_local_form forms.Local = true
+is_local_form _ = false
 
-abbrev pub has_small : Form → Bool
-has_small forms.Small1 = true
-has_small forms.Small2 = true
-has_small _ = false
+abbrev pub is_small_form : Form → Bool
+is_small_form forms.Small1 = true
+is_small_form forms.Small2 = true
+is_small_form _ = false
 
-abbrev pub has_inc : Form → Bool
-has_inc forms.Inc = true
-has_inc _ = false
+abbrev pub is_inc_form : Form → Bool
+is_inc_form forms.Inc = true
+is_inc_form _ = false
 
-abbrev pub has_two : Form → Bool
-has_two forms.LoadTwo = true
-has_two _ = false
+abbrev pub is_load_two_form : Form → Bool
+is_load_two_form forms.LoadTwo = true
+is_load_two_form _ = false
 
-abbrev pub has_jump : Form → Bool
-has_jump forms.Jump2 = true
-has_jump forms.Jump4 = true
-has_jump _ = false
+abbrev pub is_jump_form : Form → Bool
+is_jump_form forms.Jump2 = true
+is_jump_form forms.Jump4 = true
+is_jump_form _ = false
 
-abbrev pub has_table : Form → Bool
-has_table forms.TableSwitch = true
-has_table _ = false
+abbrev pub is_table_form : Form → Bool
+is_table_form forms.TableSwitch = true
+is_table_form _ = false
 
-abbrev pub has_lookup : Form → Bool
-has_lookup forms.LookupSwitch = true
-has_lookup _ = false
+abbrev pub is_lookup_form : Form → Bool
+is_lookup_form forms.LookupSwitch = true
+is_lookup_form _ = false
 
 -- these are the operands of an instruction of this layout, and name no class and no member (JVMS 6.5)
 abbrev pub has_operands : Form → Arg → Bool
-has_operands form args.Nothing = has_nothing form
-has_operands form (args.Local _) = has_local form
-has_operands form (args.Small _) = has_small form
-has_operands form (args.Inc _ _) = has_inc form
-has_operands form (args.Constant constant) = is_two constant && has_two form
-has_operands form (args.Jump _) = has_jump form
-has_operands form (args.Table _ _ _) = has_table form
-has_operands form (args.Lookup _ _) = has_lookup form
+has_operands form args.Nothing = is_empty_form form
+has_operands form (args.Local _) = is_local_form form
+has_operands form (args.Small _) = is_small_form form
+has_operands form (args.Inc _ _) = is_inc_form form
+has_operands form (args.Constant constant) = is_category_2 constant && is_load_two_form form
+has_operands form (args.Jump _) = is_jump_form form
+has_operands form (args.Table _ _ _) = is_table_form form
+has_operands form (args.Lookup _ _) = is_lookup_form form
 has_operands form _ = false
 
 -- an instruction that works on words: the opcode's row says so, and the operands are of its layout

@@ -5,7 +5,7 @@ ghost use Rattle.jv_typing.specs.Typing.{LocalsAfter};
 ghost use Rattle.jv_typing.specs.declared.no_typing.NoTyping.TheVariants as none;
 ghost use Rattle.jv_verify_words.specs.Parts.{ReadHolds};
 
-use crate::insns::{is_load, is_store, local_of};
+use jv_insn::{is_load, is_store, local_of};
 use jv_table::{Cell, ops};
 use jv_types::{Insn, Seq, VType};
 use jv_typing::{NoTyping, copied, hold_from, holds_from, stored};
