@@ -184,7 +184,7 @@ pub record IsPutTyping (w : List Shape) (site : Site) (frame : Frame) (insn : In
   pub goes : Goes w site frame insn (Class field.class ∷ desc_vtype field.desc ∷ []) [] after
 
 -- putfield in a constructor on the receiver that isn't initialised yet: of a field that the current class
--- declares itself
+-- declares itself. A JVM may want the reference to name the current class too; here what it resolves to decides.
 pub record IsOwnPutTyping (w : List Shape) (site : Site) (frame : Frame) (insn : Insn) (field : FieldRef) (after : Frame) : Type 0 where
   pub shape : MethodShape
   pub method : IsMethod w site.method shape

@@ -10,12 +10,15 @@ use Rattle.jv_types.specs.declared.body.Body.{Body}
 use Rattle.jv_types.specs.declared.frames.VType.{VType, Class}
 use Rattle.jv_types.specs.declared.frames.Frame.{Frame}
 use Rattle.jv_types.specs.declared.frames.FramedBody.{FramedBody}
+use Rattle.jv_pool.specs.declared.item.PoolItem.{PoolItem}
+use Rattle.jv_attr.specs.declared.frame.MapFrame.{MapFrame}
 use Rattle.jv_world.specs.Instances.{IsSubNamed}
 use Rattle.jv_insn.specs.Effects.{is_end}
 use Rattle.jv_insn.specs.Forms.{HasOwnOperands}
 use Rattle.jv_insn.specs.KindSafe.{Covers}
 use Rattle.jv_frames.specs.Assignable.{IsFrameAssignable}
-use Rattle.jv_frames.specs.Entry.{IsInitialFrame}
+use Rattle.jv_frames.specs.Entry.{AreEntryTypes, IsInitialFrame}
+use Rattle.jv_frames.specs.Maps.{AreMapFrames}
 use Rattle.jv_typing.specs.References.{Site}
 use Rattle.jv_typing.specs.Steps.{StepTyping}
 
@@ -49,7 +52,8 @@ pub record SatisfiesHandler (w : List Shape) (Stands : ℕ → Frame → Type 0)
   pub fits : FitsThere w Stands handler.target (handler_frame frame handler)
 
 -- What an instruction leaves fits everywhere where it goes: at the next instruction, which there is unless it
--- is a goto, a switch, a return or an athrow, at each target, and at each handler that covers it.
+-- is a goto, a switch, a return or an athrow, at each target, and at each handler that covers it. A target needs
+-- no map of its own: the JVM asks for one, and this profile for a frame there.
 pub record FitsWhereItGoes (w : List Shape) (body : Body) (Stands : ℕ → Frame → Type 0) (pc : ℕ) (insn : Insn) (frame after : Frame) : Type 0 where
   pub falls : is_end insn.op ≡ false → (next : ℕ) × IsNextStart pc body.insns next × FitsThere w Stands next after
   pub jumps : (target : ℕ) → Contains (arg_targets insn.arg) target → FitsThere w Stands target after
@@ -87,9 +91,18 @@ pub record IsTypeSafe (w : List Shape) (method : MethodId) (body : Body) (maps f
   pub maps_are : (pc : ℕ) (frame : Frame) → at_offset pc maps ≡ Some frame → at_offset pc frames ≡ Some frame
   pub each : (pc : ℕ) (insn : Insn) (frame : Frame) → at_offset pc body.insns ≡ Some insn → at_offset pc frames ≡ Some frame → IsTypedAt w method body maps frames pc insn frame
 
+-- rows of offset and frame are what some stack map of a method stands for: the maps of its code
+pub record AreMapsOf (w : List Shape) (method : MethodId) (body : Body) (maps : List (ℕ × Frame)) : Type 0 where
+  pub pool : List PoolItem
+  pub written : List MapFrame
+  pub types : List VType
+  pub entry : AreEntryTypes w method types
+  pub frames : AreMapFrames pool body 0 types written maps
+
 -- the code of a method with its frames, by some maps
 abbrev pub TypeSafe : List Shape → FramedBody → Type 0
-TypeSafe w framed = (maps : List (ℕ × Frame)) × IsTypeSafe w framed.method framed.body maps framed.frames
+TypeSafe w framed =
+    (maps : List (ℕ × Frame)) × AreMapsOf w framed.method framed.body maps × IsTypeSafe w framed.method framed.body maps framed.frames
 
 -- ---- where there is none
 
@@ -103,11 +116,12 @@ pub data IsForced (w : List Shape) (method : MethodId) (body : Body) (maps : Lis
 
 -- An offset at which a method has no table: at 0 there is no initial frame, or it doesn't fit the map that
 -- stands there; or no frame is forced; or the instruction has no typing on it, or leaves what doesn't fit where
--- it goes.
+-- it goes; or its operands aren't of its layout, as in no code that is decoded.
 pub data FailsAt (w : List Shape) (method : MethodId) (body : Body) (maps : List (ℕ × Frame)) (pc : ℕ) : Type 0 where
   no_initial : pc ≡ 0 → ((frame : Frame) → IsInitialFrame w method body.max_locals frame → ⊥) → FailsAt w method body maps pc
   unfit_initial : (initial first : Frame) → pc ≡ 0 → IsInitialFrame w method body.max_locals initial → at_offset 0 maps ≡ Some first → (IsFrameAssignable w initial first → ⊥) → FailsAt w method body maps pc
   unforced : IsStart body.insns pc → ((frame : Frame) → IsForced w method body maps pc frame → ⊥) → FailsAt w method body maps pc
+  misshapen : (insn : Insn) → at_offset pc body.insns ≡ Some insn → (HasOwnOperands insn → ⊥) → FailsAt w method body maps pc
   untyped : (insn : Insn) (frame : Frame) → at_offset pc body.insns ≡ Some insn → IsForced w method body maps pc frame → ((after : Frame) → StepTyping w (site_at method body pc) frame insn after → ⊥) → FailsAt w method body maps pc
   unfit : (insn : Insn) (frame after : Frame) → at_offset pc body.insns ≡ Some insn → IsForced w method body maps pc frame → StepTyping w (site_at method body pc) frame insn after
       → (FitsWhereItGoes w body (IsForced w method body maps) pc insn frame after → ⊥) → FailsAt w method body maps pc
