@@ -2,26 +2,20 @@
 //! definitions, their laws, and the parts of a step, which both halves of the instructions share.
 #![tactic(auto)]
 
-mod cells;
 mod no_typing;
 mod pops;
 mod pushes;
 mod reads;
-mod replacing;
 mod rules;
 mod stores;
-mod transitions;
 mod typing_laws;
 mod words;
 
-pub use cells::cells_taken;
 pub use no_typing::NoTyping;
 pub use pops::{below_cells, holds_cell};
 pub use pushes::stack_with;
 pub use reads::{hold_from, holds_from};
-pub use replacing::replaced;
 pub use rules::{RefRule, ref_rule};
 pub use stores::{copied, stored};
-pub use transitions::{Taken, can_pop, take_cells, transit};
 pub use typing_laws::{maps_are_forced, moves_have_their_forms, typing_is_a_function};
 pub use words::{is_reference, is_wide, push_copies};

@@ -10,16 +10,14 @@ ghost use Rattle.jv_types.specs.Bodies.{at_offset};
 ghost use Rattle.jv_types.specs.declared.ids.MethodId.{MethodId};
 ghost use Rattle.jv_types.specs.declared.shapes.Shape.{Shape};
 ghost use Rattle.jv_types.specs.declared.body.Body.{Body};
-ghost use Rattle.jv_typing.specs.References.{Site, IsRefTyping};
 ghost use Rattle.jv_typing.specs.TypeSafe.{IsForced};
 ghost use Rattle.jv_typing.specs.Typing.{IsWordTyping, IsMoveTyping, are_whole, in_order, Size, has_sizes, forms_of};
 
-/// A frame and an instruction lead to at most one frame, whether it works on words, moves words, or works on
-/// references (JVMS 4.10.1.9).
+/// A frame and an instruction that works on words, or moves words, lead to at most one frame (JVMS
+/// 4.10.1.9).
 pub fn typing_is_a_function()
     ensures words { (max_stack : ℕ) (frame : Frame) (insn : Insn) (a b : Frame) → IsWordTyping max_stack frame insn a → IsWordTyping max_stack frame insn b → a ≡ b }
     ensures moves { (max_stack : ℕ) (frame : Frame) (insn : Insn) (a b : Frame) → IsMoveTyping max_stack frame insn a → IsMoveTyping max_stack frame insn b → a ≡ b }
-    ensures references { (w : List Shape) (site : Site) (frame : Frame) (insn : Insn) (a b : Frame) → IsRefTyping w site frame insn a → IsRefTyping w site frame insn b → a ≡ b }
 {}
 
 /// Where a map stands its frame is forced.

@@ -1,6 +1,0 @@
-use Rattle.std.proofs.Common.{◌≡◌, ◌++◌, map, take}
-use Rattle.jv_insn.specs.Effects.{desc_cell}
-use Rattle.jv_typing.proofs.cells.push_cells.Given as goal
-
-abbrev pub invariant-loop-desc : goal.invariant-loop-desc
-invariant-loop-desc l = l.cells.items ≡ l.fn.cells.items ++ map desc_cell (take l.desc-index l.descs)
