@@ -15,13 +15,14 @@ use Rattle.jv_pool.specs.declared.item.PoolItem.{PoolItem}
 use Rattle.jv_attr.specs.declared.frame.MapType.{MapType}
 use Rattle.jv_attr.specs.declared.frame.MapFrame.{MapFrame}
 use Rattle.jv_attr.specs.FrameText.{group_of}
-use Rattle.jv_insn.specs.Meanings.{NamesType}
-use Rattle.jv_frames.specs.declared.fault.Fault.{Fault}
-use Rattle.jv_frames.specs.declared.fault.Fault.TheVariants as faults
+use Rattle.jv_names.specs.Naming.{NamesType}
+use Rattle.jv_names.specs.declared.fault.ReadFault.{ReadFault}
+use Rattle.jv_names.specs.declared.fault.ReadFault.TheVariants as faults
 use Rattle.jv_frames.specs.Types.{ref_vtype}
-use Rattle.jv_frames.specs.Finding.{NoneFor, Finds, FindsList}
+use Rattle.jv_names.specs.Finding.{NoneFor, Finds}
+use Rattle.jv_names.proofs.NamedOnce.{one_type}
+use Rattle.jv_frames.specs.Finding.{FindsList}
 use Rattle.jv_frames.specs.Maps.{plain_type, IsNumbered, object, uninit, IsTypeOf, IsFront, AreLocalsIn, HasTypes, FitsBody, IsMapFrame}
-use Rattle.jv_frames.proofs.References.{one_type}
 
 -- ---- lists, place by place
 
@@ -71,7 +72,7 @@ one_written pool t v u h k = by_plain (plain_type t.tag) h k
     by_plain (Some plain) x y = x ∙ sym y
 
 -- a tag that has a number names nothing where its number does
-pub object_none : (pool : List PoolItem) (t : MapType) (e : Fault) → t.tag ≡ 7 → NoneFor (λ (of : RefType). NamesType pool t.arg of) e → NoneFor (λ (v : VType). IsNumbered pool t v) e
+pub object_none : (pool : List PoolItem) (t : MapType) (e : ReadFault) → t.tag ≡ 7 → NoneFor (λ (of : RefType). NamesType pool t.arg of) e → NoneFor (λ (v : VType). IsNumbered pool t v) e
 object_none pool t faults.Memory seven none = tt
 object_none pool t faults.Bad seven none = λ v h. refuse v h
   where
@@ -80,13 +81,13 @@ object_none pool t faults.Bad seven none = λ v h. refuse v h
     refuse v (uninit eight is) = absurd (omega arith)
 
 -- where a tag has a number, the type is that of the number
-pub numbered_found : (pool : List PoolItem) (t : MapType) (r : Result VType Fault) → plain_type t.tag ≡ None → Finds (λ (v : VType). IsNumbered pool t v) r
+pub numbered_found : (pool : List PoolItem) (t : MapType) (r : Result VType ReadFault) → plain_type t.tag ≡ None → Finds (λ (v : VType). IsNumbered pool t v) r
     → Finds (λ (v : VType). IsTypeOf pool t v) r
 numbered_found pool t r none found =
     subst (λ (o : Option VType). Finds (λ (v : VType). MatchOption o (IsNumbered pool t v) (λ plain. v ≡ plain)) r) (sym none) found
 
 -- where one is none, they all aren't
-pub list_none : {A B : Type 0} (R : A → B → Type 0) (xs : List A) (i : ℕ) (d : A) (e : Fault) → i < length xs → NoneFor (λ (y : B). R (get_or xs i d) y) e → NoneFor (AllZip R xs) e
+pub list_none : {A B : Type 0} (R : A → B → Type 0) (xs : List A) (i : ℕ) (d : A) (e : ReadFault) → i < length xs → NoneFor (λ (y : B). R (get_or xs i d) y) e → NoneFor (AllZip R xs) e
 list_none R xs i d faults.Memory here none = tt
 list_none R xs i d faults.Bad here none = λ ys zip. let at = zip_has R xs ys i d zip here in none at.0 at.1
 
@@ -118,7 +119,7 @@ pub one_frame_stack : (pool : List PoolItem) (before : List VType) (f : MapFrame
 one_frame_stack pool before f a s b t h k = one_list (IsTypeOf pool) (one_written pool) f.stack s t h.stack_is k.stack_is
 
 -- what is found for a group is found for the frame's
-pub by_group : (pool : List PoolItem) (before : List VType) (f : MapFrame) (g : FrameGroup) (r : Result (Vec VType Global) Fault) → group_of f.kind ≡ Some g
+pub by_group : (pool : List PoolItem) (before : List VType) (f : MapFrame) (g : FrameGroup) (r : Result (Vec VType Global) ReadFault) → group_of f.kind ≡ Some g
     → FindsList (AreLocalsIn (Some g) pool before f) r → FindsList (AreLocalsIn (group_of f.kind) pool before f) r
 by_group pool before f g r is found = subst (λ (o : Option FrameGroup). FindsList (AreLocalsIn o pool before f) r) (sym is) found
 

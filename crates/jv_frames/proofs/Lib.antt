@@ -1,12 +1,9 @@
-mod Classes
-mod Arrays
+pub mod Arrays
 mod Pairs
 mod Supers
 mod Composing
 mod References
-mod Determined
+pub mod Determined
 mod Mapping
 mod OneAnswer
 mod Written
-pub mod TypingOnce
-mod Moves

@@ -11,7 +11,7 @@ use Rattle.jv_attr.specs.declared.frame.MapFrame.{MapFrame}
 use Rattle.jv_frames.specs.Types.{frame_of}
 use Rattle.jv_frames.specs.Entry.{entry_types, AreEntryTypes}
 use Rattle.jv_frames.specs.Maps.{frame_delta, AreMapFrames, IsFirstBad}
-use Rattle.jv_frames.proofs.References.{given_twice}
+use Rattle.jv_names.proofs.NamedOnce.{given_twice}
 use Rattle.jv_frames.proofs.Determined.{one_frame_locals, one_frame_stack}
 
 pub one_map : (pool : List PoolItem) (body : Body) (base : ℕ) (before : List VType) (frames : List MapFrame) (rows others : List (ℕ × Frame)) → AreMapFrames pool body base before frames rows

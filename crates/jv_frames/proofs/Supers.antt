@@ -4,8 +4,8 @@ use Rattle.std.proofs.lemmas.Option.{same_Some, slice_get_within, unwrap_or-slic
 use Rattle.std.specs.Prelude.{MatchOption}
 use Rattle.jv_types.specs.declared.shapes.Shape.{Shape}
 use Rattle.jv_world.specs.Worlds.{object_name, IsNamed, IsInterface, IsFinal, HasSuperclass, HasSuper, IsWorld, Sub, same, link}
-use Rattle.jv_world.specs.Instances.{IsSubNamed}
-use Rattle.jv_frames.specs.Assignable.{NamesInterface, IsClassAssignable}
+use Rattle.jv_world.specs.Instances.{IsSubNamed, IsInterfaceNamed}
+use Rattle.jv_frames.specs.Assignable.{IsClassAssignable}
 
 pub Sub-trans : (w : List Shape) (b c d : ℕ) → Sub w b c → Sub w c d → Sub w b d
 Sub-trans w b c d (same _ _ is) rest = subst (λ (x : ℕ). Sub w x d) (sym is) rest
@@ -97,7 +97,7 @@ IsTop-sub : (w : List Shape) → IsWorld w → (c d : ℕ) → Sub w c d → IsT
 IsTop-sub w world c d (same _ _ is) top = subst (IsTop w) is top
 IsTop-sub w world c d (link _ m _ first more) top = IsTop-sub w world m d more (IsTop-link w world c m first top)
 
-IsTop-named : (w : List Shape) (d : ℕ) (name : List ℕ) → IsNamed w d name → IsTop w d → (name ≡ object_name) ⊎ NamesInterface w name
+IsTop-named : (w : List Shape) (d : ℕ) (name : List ℕ) → IsNamed w d name → IsTop w d → (name ≡ object_name) ⊎ IsInterfaceNamed w name
 IsTop-named w d name named (inl is_object) =
     let own : named.0 ≡ is_object.0 = same_Some named.0 is_object.0 (sym named.1 ∙ is_object.1) in
     inl (sym named.2 ∙ ap (λ (s : Shape). s.name) own ∙ is_object.2)

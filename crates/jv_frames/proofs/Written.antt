@@ -27,9 +27,9 @@ use Rattle.jv_names.specs.PoolNames.{IsNamedItem, IsNamedPool}
 use Rattle.jv_attr.specs.declared.frame.MapType.{MapType}
 use Rattle.jv_attr.specs.declared.frame.MapFrame.{MapFrame}
 use Rattle.jv_attr.specs.FrameText.{has_arg, group_of, IsArg, is_typed, IsType, IsFrame, HasParts}
-use Rattle.jv_insn.specs.Meanings.{IsTypeText, NamesType}
+use Rattle.jv_names.specs.Naming.{IsTypeText, NamesType}
 use Rattle.jv_frames.specs.Types.{ref_vtype}
-use Rattle.jv_frames.specs.Maps.{plain_type, IsNumbered, object, uninit, IsTypeOf, IsEnoughIn, IsEnough, AreLocalsIn, HasTypes}
+use Rattle.jv_frames.specs.Maps.{plain_type, IsNumbered, object, uninit, IsTypeOf, HasLocalsToChopIn, HasLocalsToChop, AreLocalsIn, HasTypes}
 
 -- ---- what a class of the pool names
 
@@ -161,7 +161,7 @@ types_exist pool (t ∷ written) named all =
 
 -- ---- written frames
 
-locals_exist : (pool : List PoolItem) (before : List VType) (f : MapFrame) (g : Option FrameGroup) → HasParts g f → IsEnoughIn g before f
+locals_exist : (pool : List PoolItem) (before : List VType) (f : MapFrame) (g : Option FrameGroup) → HasParts g f → HasLocalsToChopIn g before f
     → (more : List VType) → AllZip (IsTypeOf pool) f.locals more → (locals : List VType) × AreLocalsIn g pool before f locals
 locals_exist pool before f None parts enough more zip = absurd parts
 locals_exist pool before f (Some Same) parts enough more zip = (before, refl)
@@ -175,7 +175,7 @@ locals_exist pool before f (Some Chop) parts enough more zip =
 locals_exist pool before f (Some Append) parts enough more zip = (before ++ more, (more, zip, refl))
 locals_exist pool before f (Some Full) parts enough more zip = (more, zip)
 
-pub frame_exists : (pool : List PoolItem) (before : List VType) (f : MapFrame) → IsNamedPool pool → IsFrame pool f → IsEnough before f
+pub frame_exists : (pool : List PoolItem) (before : List VType) (f : MapFrame) → IsNamedPool pool → IsFrame pool f → HasLocalsToChop before f
     → (locals : List VType) × (stack : List VType) × HasTypes pool before f locals stack
 frame_exists pool before f named is enough =
     let more = types_exist pool f.locals named is.locals in

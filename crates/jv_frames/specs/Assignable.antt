@@ -1,21 +1,17 @@
 -- Which verification types and frames may stand for which (JVMS 4.10.1.2, 4.10.1.4).
-use Rattle.std.specs.Prelude.{◌≡◌, ℕ, ◌⊎◌, IsTrue, List, Some, slice_get}
+use Rattle.std.specs.Prelude.{◌≡◌, ℕ, ◌⊎◌, IsTrue, List}
 use Rattle.std.specs.List.{AllZip}
 use Rattle.jv_types.specs.declared.shapes.Shape.{Shape}
 use Rattle.jv_types.specs.declared.frames.VType.{VType, Top, Null, Class, Array}
 use Rattle.jv_types.specs.declared.frames.Frame.{Frame}
-use Rattle.jv_world.specs.Worlds.{object_name, IsInterface}
-use Rattle.jv_world.specs.Instances.{IsSubNamed, IsArraySuper}
+use Rattle.jv_world.specs.Worlds.{object_name}
+use Rattle.jv_world.specs.Instances.{IsSubNamed, IsInterfaceNamed, IsArraySuper}
 use Rattle.jv_frames.specs.Types.{is_array, is_object}
-
--- the name is that of an interface of the world
-abbrev pub NamesInterface : List Shape → List ℕ → Type 0
-NamesInterface w name = (c : ℕ) × (shape : Shape) × (slice_get w c ≡ Some shape) × (shape.name ≡ name) × IsInterface shape
 
 -- the class or interface of one name is assignable to that of the other: to its supertypes, and, whatever
 -- it is, to Object and to each interface, which the verifier treats as it does Object
 abbrev pub IsClassAssignable : List Shape → List ℕ → List ℕ → Type 0
-IsClassAssignable w name of = IsSubNamed w name of ⊎ ((of ≡ object_name) ⊎ NamesInterface w of)
+IsClassAssignable w name of = IsSubNamed w name of ⊎ ((of ≡ object_name) ⊎ IsInterfaceNamed w of)
 
 -- the first type is assignable to the second
 pub data IsAssignable (w : List Shape) : VType → VType → Type 0 where
@@ -33,7 +29,7 @@ pub data IsAssignable (w : List Shape) : VType → VType → Type 0 where
   of_items : (a b item other : VType) → a ≡ Array item → b ≡ Array other → IsAssignable w item other → IsAssignable w a b
 
 -- The first frame is assignable to the second: its types, word by word, are, their stacks are equally deep,
--- and the flag, that the receiver isn't initialised, may be gained and not lost.
+-- and the flag (flagThisUninit), that the receiver isn't initialised, may be gained and not lost.
 pub record IsFrameAssignable (w : List Shape) (f g : Frame) : Type 0 where
   pub locals : AllZip (IsAssignable w) f.locals g.locals
   pub stack : AllZip (IsAssignable w) f.stack g.stack

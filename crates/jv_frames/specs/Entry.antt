@@ -1,5 +1,5 @@
 -- The frame as a method begins (JVMS 4.10.1.6).
-use Rattle.std.specs.Prelude.{◌≡◌, ◌≤◌, ℕ, Bool, not, ◌&&◌, if◌then◌else◌, List, [], ◌∷◌, ◌++◌, length, map, Some, slice_get, codes}
+use Rattle.std.specs.Prelude.{◌≡◌, ◌≤◌, ℕ, Bool, not, ◌&&◌, ◌==◌, bit_and, if◌then◌else◌, List, [], ◌∷◌, ◌++◌, length, map, Some, slice_get, codes}
 use Rattle.std.specs.Str.{bytes_eq}
 use Rattle.jv_types.specs.declared.ids.MethodId.{MethodId}
 use Rattle.jv_types.specs.declared.shapes.Shape.{Shape}
@@ -7,8 +7,11 @@ use Rattle.jv_types.specs.declared.shapes.MethodShape.{MethodShape}
 use Rattle.jv_types.specs.declared.frames.VType.{VType, UninitThis, Class}
 use Rattle.jv_types.specs.declared.frames.Frame.{Frame}
 use Rattle.jv_world.specs.Worlds.{object_name}
-use Rattle.jv_insn.specs.KindSafe.{is_static}
 use Rattle.jv_frames.specs.Types.{desc_vtype, in_words, frame_of}
+
+-- a static method (JVMS table 4.6-A)
+abbrev pub is_static : MethodShape → Bool
+is_static method = bit_and method.flags.0 8 == 8
 
 -- a constructor of a class other than Object: its receiver isn't initialised yet
 abbrev pub begins_uninit : List ℕ → MethodShape → Bool

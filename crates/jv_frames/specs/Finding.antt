@@ -2,28 +2,20 @@
 use Rattle.std.specs.Prelude.{List, Result, Ok, Err}
 use Rattle.std.specs.declared.alloc.Global.{Global}
 use Rattle.std.specs.declared.vec.Vec.{Vec}
-use Rattle.jv_frames.specs.declared.fault.Fault.{Fault}
-use Rattle.jv_frames.specs.declared.fault.Fault.TheVariants as faults
+use Rattle.jv_names.specs.declared.fault.ReadFault.{ReadFault}
+use Rattle.jv_names.specs.declared.fault.ReadFault.TheVariants as faults
+use Rattle.jv_names.specs.Finding.{NoneFor}
 
-abbrev pub NoneFor : {X : Type 0} → (X → Type 0) → Fault → Type 0
-NoneFor {X} P faults.Bad = (x : X) → P x → ⊥
-NoneFor P faults.Memory = Unit {0}
-
--- a value with the property, or no value has it, unless memory ran out
-abbrev pub Finds : {X : Type 0} → (X → Type 0) → Result X Fault → Type 0
-Finds P (Ok x) = P x
-Finds P (Err e) = NoneFor P e
-
--- the same for a list
-abbrev pub FindsList : {X : Type 0} → (List X → Type 0) → Result (Vec X Global) Fault → Type 0
+-- a list with the property, or no list has it, unless memory ran out
+abbrev pub FindsList : {X : Type 0} → (List X → Type 0) → Result (Vec X Global) ReadFault → Type 0
 FindsList P (Ok x) = P x.items
 FindsList P (Err e) = NoneFor P e
 
 -- the same for two lists
-abbrev pub NoneForTwo : {X : Type 0} → (List X → List X → Type 0) → Fault → Type 0
+abbrev pub NoneForTwo : {X : Type 0} → (List X → List X → Type 0) → ReadFault → Type 0
 NoneForTwo {X} P faults.Bad = (x y : List X) → P x y → ⊥
 NoneForTwo P faults.Memory = Unit {0}
 
-abbrev pub FindsTwo : {X : Type 0} → (List X → List X → Type 0) → Result (Vec X Global × Vec X Global) Fault → Type 0
+abbrev pub FindsTwo : {X : Type 0} → (List X → List X → Type 0) → Result (Vec X Global × Vec X Global) ReadFault → Type 0
 FindsTwo P (Ok both) = P both.0.items both.1.items
 FindsTwo P (Err e) = NoneForTwo P e

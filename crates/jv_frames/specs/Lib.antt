@@ -5,4 +5,3 @@ pub mod Maps
 pub mod Pairs
 pub mod Finding
 pub mod Mapping
-pub mod Typing

@@ -5,6 +5,7 @@ use Rattle.std.specs.Ordering.{nat_cmp}
 use Rattle.jv_table.specs.Rows.{row_of}
 use Rattle.jv_table.specs.declared.class_tables.FrameGroup.{FrameGroup}
 use Rattle.jv_table.specs.declared.class_tables.FrameGroup.TheVariants.{Same, SameOne, Chop, Append, Full}
+use Rattle.jv_table.specs.declared.ops.TheConstants.{NEW}
 use Rattle.jv_types.specs.Bodies.{at_offset, IsStart}
 use Rattle.jv_types.specs.declared.desc.RefType.{RefType}
 use Rattle.jv_types.specs.declared.ids.MethodId.{MethodId}
@@ -23,7 +24,7 @@ use Rattle.jv_attr.specs.declared.attr.CodeAttr.{CodeAttr}
 use Rattle.jv_attr.specs.declared.frame.MapType.{MapType}
 use Rattle.jv_attr.specs.declared.frame.MapFrame.{MapFrame}
 use Rattle.jv_attr.specs.FrameText.{group_of}
-use Rattle.jv_insn.specs.Meanings.{NamesType}
+use Rattle.jv_names.specs.Naming.{NamesType}
 use Rattle.jv_frames.specs.declared.fault.BadMap.{BadMap}
 use Rattle.jv_frames.specs.declared.fault.BadMap.TheVariants as maps
 use Rattle.jv_frames.specs.Types.{ref_vtype, in_words, frame_of}
@@ -58,8 +59,8 @@ IsTypeOf pool t type = MatchOption (plain_type t.tag) (IsNumbered pool t type) (
 
 -- ---- a written frame
 
--- how far the frame lies behind the place from which it is counted: the first two groups have it in their
--- kind
+-- how far the frame lies behind the place from which it is counted, the standard's offset_delta: the first two
+-- groups have it in their kind, the standard's frame_type
 abbrev pub delta_in : Option FrameGroup → MapFrame → ℕ
 delta_in (Some Same) f = f.kind
 delta_in (Some SameOne) f = f.kind - 64
@@ -90,18 +91,18 @@ pub record HasTypes (pool : List PoolItem) (before : List VType) (f : MapFrame) 
   pub stack_is : AllZip (IsTypeOf pool) f.stack stack
 
 -- a frame that takes types of local variables away takes no more than there are
-abbrev pub IsEnoughIn : Option FrameGroup → List VType → MapFrame → Type 0
-IsEnoughIn (Some Chop) before f = 251 - f.kind ≤ length before
-IsEnoughIn _ before f = Unit {0}
+abbrev pub HasLocalsToChopIn : Option FrameGroup → List VType → MapFrame → Type 0
+HasLocalsToChopIn (Some Chop) before f = 251 - f.kind ≤ length before
+HasLocalsToChopIn _ before f = Unit {0}
 
-abbrev pub IsEnough : List VType → MapFrame → Type 0
-IsEnough before f = IsEnoughIn (group_of f.kind) before f
+abbrev pub HasLocalsToChop : List VType → MapFrame → Type 0
+HasLocalsToChop before f = HasLocalsToChopIn (group_of f.kind) before f
 
--- a `new` stands at the offset (opcode 187)
+-- a `new` stands at the offset
 pub record IsNewAt (insns : List (ℕ × Insn)) (pc : ℕ) : Type 0 where
   pub insn : Insn
   pub stands : at_offset pc insns ≡ Some insn
-  pub makes : insn.op ≡ 187
+  pub makes : insn.op ≡ NEW
 
 -- a type that isn't initialised yet is that of a `new` of the code
 abbrev pub IsMade : List (ℕ × Insn) → VType → Type 0

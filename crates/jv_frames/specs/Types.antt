@@ -50,7 +50,7 @@ has_uninit_this types = list_any is_uninit_this types
 
 -- ---- words
 
--- the words of a value of a type: that of a long or double is followed by Top
+-- the words of a value of a type: one of category 2, a long or double, is followed by Top
 abbrev pub type_words : VType → List VType
 type_words Long = Long ∷ Top ∷ []
 type_words Double = Double ∷ Top ∷ []
@@ -64,7 +64,7 @@ abbrev pub padded : ℕ → List VType → List VType
 padded max_locals words = words ++ replicate (max_locals - length words) Top
 
 -- The frame of a method with so many local variables that has these types of local variables and of stack
--- items, each once, the topmost last. Its flag is set exactly where a receiver that isn't initialised is among
+-- items, each once, the topmost last. Its flag, the standard's flagThisUninit, is set exactly where a receiver that isn't initialised is among
 -- those of the local variables.
 abbrev pub frame_of : ℕ → List VType → List VType → Frame
 frame_of max_locals locals stack = record {

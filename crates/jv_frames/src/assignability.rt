@@ -1,64 +1,18 @@
 ghost use Rattle.std.specs.Prelude.{◌↔◌, IsTrue};
 ghost use Rattle.std.specs.List.{AllZip};
 ghost use Rattle.jv_types.specs.declared.frames.VType.{Class, PrimArray};
-ghost use Rattle.jv_world.specs.Worlds.{IsInterface};
-ghost use Rattle.jv_world.specs.Instances.{IsSubNamed, IsArraySuper};
-ghost use Rattle.jv_frames.specs.Assignable.{NamesInterface, IsClassAssignable, IsAssignable, IsFrameAssignable};
+ghost use Rattle.jv_frames.specs.Assignable.{IsClassAssignable, IsAssignable, IsFrameAssignable};
 
-use bitflags::Flags;
-use jv_types::{Access, Frame, Name, Prim, Shape, VType};
-use jv_world::World;
-
-/// Whether every array is assignable to the class or interface of this name (JVMS 4.10.1.2).
-fn is_array_super(name: &Name) -> bool
-    ensures { IsTrue result ↔ IsArraySuper name.now }
-{
-    let name = name.as_slice();
-    name == b"java/lang/Object".as_slice()
-        || name == b"java/lang/Cloneable".as_slice()
-        || name == b"java/io/Serializable".as_slice()
-}
-
-/// Whether the class of one name is a subtype of the class of the other. Each name is one of itself, also
-/// where the world has no class of that name.
-fn is_sub_named(world: &World, name: &Name, of: &Name) -> bool
-    ensures { IsTrue result ↔ IsSubNamed world.now name.now of.now }
-{
-    if name == of {
-        return true;
-    }
-    match (world.class(name), world.class(of)) {
-        (Some(class), Some(other)) => world.sub(class, other),
-        (Some(_), None) => false,
-        (None, Some(_)) => false,
-        (None, None) => false,
-    }
-}
-
-/// Whether a class is an interface (JVMS table 4.1-B).
-fn is_interface(shape: &Shape) -> bool
-    ensures { IsTrue result ↔ IsInterface shape.now }
-{
-    shape.flags.contains(Access::INTERFACE)
-}
-
-/// Whether the name is that of an interface of the world.
-fn names_interface(world: &World, name: &Name) -> bool
-    ensures { IsTrue result ↔ NamesInterface world.now name.now }
-{
-    match world.class(name) {
-        None => false,
-        Some(class) => is_interface(world.shape(class)),
-    }
-}
+use jv_types::{Frame, Name, Prim, VType};
+use jv_world::{World, is_array_super};
 
 /// Whether the class or interface of one name is assignable to that of the other.
 fn is_class_assignable(world: &World, name: &Name, of: &Name) -> bool
     ensures { IsTrue result ↔ IsClassAssignable world.now name.now of.now }
 {
-    is_sub_named(world, name, of)
+    world.is_sub_named(name, of)
         || of.as_slice() == b"java/lang/Object".as_slice()
-        || names_interface(world, of)
+        || world.is_interface_named(of)
 }
 
 /// Whether a type is assignable to the class or interface of this name.
@@ -126,7 +80,7 @@ pub fn assignable(world: &World, a: &VType, b: &VType) -> bool
 }
 
 /// Whether the types of the one list are assignable to those of the other, place by place.
-fn are_assignable(world: &World, types: &[VType], others: &[VType]) -> bool
+pub fn are_assignable(world: &World, types: &[VType], others: &[VType]) -> bool
     ensures { IsTrue result ↔ AllZip (IsAssignable world.now) types.now others.now }
 {
     if types.len() != others.len() {

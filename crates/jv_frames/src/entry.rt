@@ -1,9 +1,8 @@
 ghost use Rattle.std.specs.Prelude.{◌≡◌, ◌++◌, map, IfOk, OnOk, IfSome, IfNone};
 ghost use Rattle.jv_types.specs.declared.frames.Frame.{Frame as FrameValue};
 ghost use Rattle.jv_resolve.specs.Members.{HasMethod};
-ghost use Rattle.jv_insn.specs.KindSafe.{is_static};
 ghost use Rattle.jv_frames.specs.Types.{desc_vtype};
-ghost use Rattle.jv_frames.specs.Entry.{begins_uninit, receiver_types, entry_types, AreEntryTypes, IsInitialFrame};
+ghost use Rattle.jv_frames.specs.Entry.{is_static, begins_uninit, receiver_types, entry_types, AreEntryTypes, IsInitialFrame};
 
 use crate::descriptors::desc_vtype;
 use crate::words::{frame_of, word_count};

@@ -1,6 +1,5 @@
 ghost use Rattle.std.specs.Prelude.{◌≡◌};
 ghost use Rattle.jv_frames.specs.declared.fault.BadMap.TheVariants as map;
-ghost use Rattle.jv_frames.specs.declared.fault.Fault.TheVariants as fault;
 
 use std::alloc::{AllocError, AllocFailed};
 use thiserror::Error;
@@ -29,30 +28,5 @@ impl<T: Drop> From<AllocFailed<T>> for BadMap {
 
     fn from(_e: AllocFailed<T>) -> BadMap {
         BadMap::Memory
-    }
-}
-
-/// Why a part of a map has no value.
-#[derive(Clone, Copy, Debug, PartialEq, Eq)]
-pub enum Fault {
-    /// It has none.
-    Bad,
-    /// Memory is wanting.
-    Memory,
-}
-
-impl From<AllocError> for Fault {
-    ghost from_gives = { λ _ e. e ≡ fault.Memory };
-
-    fn from(_e: AllocError) -> Fault {
-        Fault::Memory
-    }
-}
-
-impl<T: Drop> From<AllocFailed<T>> for Fault {
-    ghost from_gives = { λ _ e. e ≡ fault.Memory };
-
-    fn from(_e: AllocFailed<T>) -> Fault {
-        Fault::Memory
     }
 }

@@ -9,7 +9,7 @@ ghost use Rattle.jv_attr.specs.declared.attr.CodeAttr.{CodeAttr};
 ghost use Rattle.jv_attr.specs.declared.frame.MapFrame.{MapFrame};
 ghost use Rattle.jv_attr.specs.FrameText.{IsFrame};
 ghost use Rattle.jv_names.specs.PoolNames.{IsNamedPool};
-ghost use Rattle.jv_frames.specs.Maps.{AreFramesOf, FailsFirstAt, IsEnough, HasTypes};
+ghost use Rattle.jv_frames.specs.Maps.{AreFramesOf, FailsFirstAt, HasLocalsToChop, HasTypes};
 ghost use Rattle.jv_types.specs.declared.shapes.Shape.{Shape};
 ghost use Rattle.jv_types.specs.declared.frames.VType.{VType};
 ghost use Rattle.jv_types.specs.declared.frames.Frame.{Frame};
@@ -44,6 +44,6 @@ pub fn maps_have_one_answer()
 /// types, unless it takes more local variables away than there are. So a map fails for no other cause than
 /// this one, an offset that is at no instruction, too many words, or an offset that is at no `new`.
 pub fn written_frames_have_types()
-    ensures { (pool : List PoolItem) (before : List VType) (f : MapFrame) → IsNamedPool pool → IsFrame pool f → IsEnough before f
+    ensures { (pool : List PoolItem) (before : List VType) (f : MapFrame) → IsNamedPool pool → IsFrame pool f → HasLocalsToChop before f
         → (locals : List VType) × (stack : List VType) × HasTypes pool before f locals stack }
 {}

@@ -10,11 +10,10 @@ mod laws;
 mod map_frames;
 mod map_types;
 mod maps;
-mod no_typing;
-mod typing_laws;
 mod words;
 
-pub use assignability::{assignable, frame_assignable};
+pub use assignability::{are_assignable, assignable, frame_assignable};
+pub use descriptors::{desc_vtype, ref_vtype};
 pub use entry::initial_frame;
 pub use fault::BadMap;
 pub use laws::{
@@ -22,5 +21,4 @@ pub use laws::{
     written_frames_have_types,
 };
 pub use maps::frames_of;
-pub use no_typing::NoTyping;
-pub use typing_laws::{moves_have_their_forms, typing_is_a_function};
+pub use words::in_words;

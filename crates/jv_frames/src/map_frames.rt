@@ -4,25 +4,16 @@ ghost use Rattle.jv_attr.specs.FrameText.{group_of};
 ghost use Rattle.jv_frames.specs.Finding.{FindsList, FindsTwo};
 ghost use Rattle.jv_frames.specs.Maps.{frame_delta, IsFront, IsLonger, AreLocalsIn, HasTypes, IsNewAt, IsMade, FitsBody, IsMapFrame};
 
-use crate::fault::Fault;
 use crate::map_types::types_of;
 use crate::words::word_count;
 use jv_attr::{MapFrame, MapType};
+use jv_names::ReadFault;
 use jv_pool::Pool;
-use jv_table::{FrameGroup, frame_kind};
+use jv_table::{FrameGroup, frame_kind, frame_tags, ops};
 use jv_types::{Body, VType};
 use std::alloc::Global;
 
-/// The opcode of `new` (JVMS 6.5).
-const NEW: u8 = 187;
-
-/// The first kind of frame behind those that take local variables away.
-const CHOP_END: u8 = 251;
-
-/// The first kind of frame with one type on the stack.
-const FIRST_SAME_ONE: u8 = 64;
-
-/// The group of a frame's kind, where there is such a kind.
+/// The group of a frame's kind, the standard's frame_type, where there is such a kind (JVMS 4.7.4).
 #[tactic(auto, unfolding(jv_attr::specs::FrameText::group_of))]
 fn group_of(kind: u8) -> Option<FrameGroup>
     ensures { result ≡ group_of kind }
@@ -33,24 +24,27 @@ fn group_of(kind: u8) -> Option<FrameGroup>
     }
 }
 
-/// How far a frame lies behind the place from which it is counted (JVMS 4.7.4).
+/// How far a frame lies behind the place from which it is counted: the standard's offset_delta (JVMS 4.7.4).
 pub fn frame_delta(f: &MapFrame) -> u16
     ensures { result ≡ frame_delta f.now }
 {
     match group_of(f.kind) {
         Some(FrameGroup::Same) => u16::from(f.kind),
-        Some(FrameGroup::SameOne) => u16::from(f.kind.saturating_sub(FIRST_SAME_ONE)),
+        Some(FrameGroup::SameOne) => u16::from(
+            f.kind
+                .saturating_sub(frame_tags::FIRST_SAME_LOCALS_1_STACK_ITEM),
+        ),
         _ => f.delta,
     }
 }
 
 /// The types without so many at the end, where there are so many.
-fn chopped(locals: Vec<VType>, count: u8) -> Result<Vec<VType>, Fault>
+fn chopped(locals: Vec<VType>, count: u8) -> Result<Vec<VType>, ReadFault>
     ensures { FindsList (IsFront locals.items count) result }
 {
     let mut left = locals;
     match left.len().checked_sub(usize::from(count)) {
-        None => Err(Fault::Bad),
+        None => Err(ReadFault::Bad),
         Some(rest) => {
             left.truncate(rest);
             Ok(left)
@@ -64,7 +58,7 @@ fn appended(
     pool: &Pool,
     locals: Vec<VType>,
     written: &[MapType],
-) -> Result<Vec<VType>, Fault>
+) -> Result<Vec<VType>, ReadFault>
     ensures { FindsList (IsLonger pool.now locals.items written.now) result }
 {
     let mut longer = locals;
@@ -84,12 +78,12 @@ fn locals_of(
     pool: &Pool,
     before: Vec<VType>,
     f: &MapFrame,
-) -> Result<Vec<VType>, Fault>
+) -> Result<Vec<VType>, ReadFault>
     ensures { FindsList (AreLocalsIn (group_of f.now.kind) pool.now before.items f.now) result }
 {
     match group_of(f.kind) {
-        None => Err(Fault::Bad),
-        Some(FrameGroup::Chop) => chopped(before, CHOP_END.saturating_sub(f.kind)),
+        None => Err(ReadFault::Bad),
+        Some(FrameGroup::Chop) => chopped(before, frame_tags::SAME_EXTENDED.saturating_sub(f.kind)),
         Some(FrameGroup::Append) => appended(alloc, pool, before, f.locals.as_slice()),
         Some(FrameGroup::Full) => types_of(alloc, pool, f.locals.as_slice()),
         Some(FrameGroup::Same) => Ok(before),
@@ -105,7 +99,7 @@ fn frame_types(
     pool: &Pool,
     before: Vec<VType>,
     f: &MapFrame,
-) -> Result<(Vec<VType>, Vec<VType>), Fault>
+) -> Result<(Vec<VType>, Vec<VType>), ReadFault>
     ensures { FindsTwo (HasTypes pool.now before.items f.now) result }
 {
     match locals_of(alloc, pool, before, f) {
@@ -123,7 +117,7 @@ fn is_new(body: &Body, pc: u16) -> bool
 {
     match body.at(pc) {
         None => false,
-        Some(insn) => insn.op == NEW,
+        Some(insn) => insn.op == ops::NEW,
     }
 }
 
@@ -179,20 +173,20 @@ pub fn map_frame(
     base: u32,
     before: Vec<VType>,
     f: &MapFrame,
-) -> Result<(Vec<VType>, Vec<VType>), Fault>
+) -> Result<(Vec<VType>, Vec<VType>), ReadFault>
     requires { base ≤ 65536 }
     ensures found { FindsTwo (IsMapFrame pool.now body.now base before.items f.now) result }
     ensures within { IfOk result (λ found. base + frame_delta f.now < 65536) }
 {
     if !starts(body, base + u32::from(frame_delta(f))) {
-        return Err(Fault::Bad);
+        return Err(ReadFault::Bad);
     }
     match frame_types(alloc, pool, before, f) {
         Ok((locals, stack)) => {
             if fits_body(body, locals.as_slice(), stack.as_slice()) {
                 Ok((locals, stack))
             } else {
-                Err(Fault::Bad)
+                Err(ReadFault::Bad)
             }
         }
         Err(e) => Err(e),

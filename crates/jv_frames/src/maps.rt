@@ -3,10 +3,11 @@ ghost use Rattle.jv_resolve.specs.Members.{HasMethod};
 ghost use Rattle.jv_frames.specs.Maps.{AreMapFrames, IsFirstBad, written_frames, AreFramesOf, FailsFirstAt, BadAt};
 
 use crate::entry::entry_types;
-use crate::fault::{BadMap, Fault};
+use crate::fault::BadMap;
 use crate::map_frames::{frame_delta, map_frame};
 use crate::words::frame_of;
 use jv_attr::{Attr, AttrBody, CodeAttr, MapFrame, NoCode};
+use jv_names::ReadFault;
 use jv_pool::Pool;
 use jv_types::{Body, Frame, MethodId, VType};
 use jv_world::World;
@@ -47,8 +48,8 @@ fn map_frames(
                 before = locals;
                 base = pc + 1;
             }
-            Err(Fault::Bad) => return Err(BadMap::At { pc }),
-            Err(Fault::Memory) => return Err(BadMap::Memory),
+            Err(ReadFault::Bad) => return Err(BadMap::At { pc }),
+            Err(ReadFault::Memory) => return Err(BadMap::Memory),
         }
     }
     Ok(rows)

@@ -45,7 +45,7 @@ fn push_type(words: &mut Vec<VType>, of: &VType) -> Result<(), AllocError>
 }
 
 /// The words of these types, one after the other. Only memory can be wanting.
-fn in_words(alloc: Global, types: &[VType]) -> Result<Vec<VType>, AllocError>
+pub fn in_words(alloc: Global, types: &[VType]) -> Result<Vec<VType>, AllocError>
     ensures { IfOk result (λ words. words.items ≡ in_words types.now) }
 {
     let mut words = Vec::new(alloc);

@@ -1,3 +1,2 @@
-mod Popping
 mod ReadLocals
 mod Stepping

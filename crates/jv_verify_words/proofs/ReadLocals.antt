@@ -1,14 +1,13 @@
--- The local variables that an instruction reads, and those before a store.
-use Rattle.std.proofs.Common.{◌≡◌, ℕ, Bool, true, IsTrue, if◌then◌else◌, List, [], ◌∷◌, ◌++◌, map, All, refl, sym, ap, ◌∙◌, subst, append_assoc}
+-- The local variables that an instruction reads.
+use Rattle.std.proofs.Common.{◌≡◌, ℕ, Bool, true, IsTrue, List, [], ◌∷◌, map, All, refl, sym, ap, subst}
 use Rattle.std.proofs.lemmas.List.Elements.{All-nil, All-cons, All-head, All-tail, All-map}
 use Rattle.jv_table.specs.declared.code_tables.Cell.{Cell}
 use Rattle.jv_table.specs.declared.code_tables.Cell.TheVariants.{Int}
 use Rattle.jv_types.specs.declared.instruction.Arg.{Arg}
-use Rattle.jv_types.specs.declared.frames.VType.{VType, Top}
+use Rattle.jv_types.specs.declared.frames.VType.{VType}
 use Rattle.jv_insn.specs.Effects.{is_load, local_of, cells_given, locals_read}
-use Rattle.jv_insn.specs.Kinds.{is_wide}
-use Rattle.jv_frames.specs.Typing.{halved}
-use Rattle.jv_verify_words.specs.Parts.{HoldsFrom, ReadHolds}
+use Rattle.jv_typing.specs.Parts.{HoldsFrom}
+use Rattle.jv_verify_words.specs.Parts.{ReadHolds}
 
 -- ---- all of a list
 
@@ -39,16 +38,3 @@ tells_iinc locals op arg r e tells =
       λ yes. subst (All (ReadHolds locals)) same (All-cons (ReadHolds locals) read [] (tells.0 yes) (All-nil (ReadHolds locals))),
       λ all. tells.1 (All-head (ReadHolds locals) read [] (subst (All (ReadHolds locals)) (sym same) all)),
     )
-
--- ---- before a store
-
-pub halved_last : (rest : List VType) (last : VType) → halved (rest ++ last ∷ []) ≡ rest ++ (if is_wide last then Top else last) ∷ []
-halved_last [] last = refl
-halved_last (type ∷ []) last = refl
-halved_last (type ∷ next ∷ rest) last = ap (λ (ts : List VType). type ∷ ts) (halved_last (next ∷ rest) last)
-
-pub pushed_halved : (old copies new before rest : List VType) (last word : VType) → before ≡ rest ++ last ∷ [] → copies ≡ old ++ rest → new ≡ copies ++ word ∷ []
-    → word ≡ (if is_wide last then Top else last) → new ≡ old ++ halved before
-pushed_halved old copies new before rest last word is copied pushed e =
-    pushed ∙ ap (λ (ws : List VType). ws ++ word ∷ []) copied ∙ append_assoc old rest (word ∷ []) ∙ ap (λ (w : VType). old ++ (rest ++ w ∷ [])) e
-    ∙ ap (λ (ws : List VType). old ++ ws) (sym (halved_last rest last)) ∙ ap (λ (ws : List VType). old ++ halved ws) (sym is)

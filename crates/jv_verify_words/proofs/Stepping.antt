@@ -1,7 +1,6 @@
 -- What the parts of a step make of it.
 use Rattle.std.proofs.Common.{◌≡◌, ℕ, ◌<◌, ◌≤◌, true, List, [], ◌∷◌, ◌++◌, length, drop, All, Result, Err, refl, sym, ap, ◌∙◌, subst, arith}
 use Rattle.std.proofs.lemmas.Bool.{and_parts}
-use Rattle.std.proofs.Math.Seq.{drop-append_seam}
 use Rattle.jv_table.specs.declared.code_tables.Cell.{Cell}
 use Rattle.jv_table.specs.declared.code_tables.Cell.TheVariants.{Int, Float, Long, Double, Ref, Null}
 use Rattle.jv_types.specs.declared.instruction.Insn.{Insn}
@@ -9,10 +8,12 @@ use Rattle.jv_types.specs.declared.frames.VType.{VType}
 use Rattle.jv_types.specs.declared.frames.Frame.{Frame}
 use Rattle.jv_insn.specs.Effects.{effect_of}
 use Rattle.jv_insn.specs.Kinds.{HoldsCell, HoldsCells, EndsWithCells}
-use Rattle.jv_frames.specs.Typing.{LocalsAfter, IsWordTyping}
-use Rattle.jv_frames.proofs.TypingOnce.{SameParts, is_number, are_numbers, one_numbers, gives_numbers, same_tops}
+use Rattle.jv_typing.specs.Typing.{LocalsAfter, IsWordTyping}
+use Rattle.jv_typing.proofs.TypingOnce.{SameParts, is_number, are_numbers, one_numbers, gives_numbers, same_tops}
 use Rattle.jv_verify_words.specs.declared.insns.WordCells.{WordCells}
-use Rattle.jv_verify_words.specs.Parts.{LeavesCells, ReadHolds, number_words, numbers_words, AreCellsOf}
+use Rattle.jv_typing.specs.Parts.{LeavesCells}
+use Rattle.jv_typing.proofs.Popping.{taken_behind}
+use Rattle.jv_verify_words.specs.Parts.{ReadHolds, number_words, numbers_words, AreCellsOf}
 
 -- ---- numbers
 
@@ -37,11 +38,6 @@ given_words insn cells are =
     (hold_numbers (effect_of insn).gives (gives_numbers insn are.is_word))
 
 -- ---- what was taken
-
--- what was taken stands behind what is left
-taken_behind : (cells : List Cell) (stack below : List VType) (leaves : LeavesCells cells stack below) → leaves.top ≡ drop (length below) stack
-taken_behind cells stack below leaves =
-    sym (ap (drop (length below)) leaves.whole ∙ drop-append_seam below leaves.top)
 
 -- the cells that are left by their own words
 pub ends_of : (insn : Insn) (cells : WordCells) (stack below : List VType) → AreCellsOf insn cells → LeavesCells cells.takes.now stack below → EndsWithCells (effect_of insn).takes stack

@@ -1,5 +1,5 @@
--- The parts of a step: what stands below cells, the words of numbers, and the cells of an instruction.
-use Rattle.std.specs.Prelude.{◌≡◌, ℕ, IsTrue, List, [], ◌∷◌, ◌++◌, length, take, drop, Some}
+-- The parts of a step on words: the words of numbers, and the cells of an instruction.
+use Rattle.std.specs.Prelude.{◌≡◌, ℕ, IsTrue, List, [], ◌∷◌, Some}
 use Rattle.std.specs.List.{flat_map}
 use Rattle.jv_table.specs.CodeRows.{op_form}
 use Rattle.jv_table.specs.declared.code_tables.OpRow.{OpRow}
@@ -10,25 +10,9 @@ use Rattle.jv_types.specs.declared.instruction.Insn.{Insn}
 use Rattle.jv_types.specs.declared.frames.VType.{VType, Top}
 use Rattle.jv_types.specs.declared.frames.VType as types
 use Rattle.jv_insn.specs.Effects.{effect_of, op_row}
-use Rattle.jv_insn.specs.Kinds.{HoldsCell, HoldsCells, cell_words}
-use Rattle.jv_frames.specs.Typing.{has_operands, IsWordInsn}
+use Rattle.jv_typing.specs.Typing.{has_operands, IsWordInsn}
+use Rattle.jv_typing.specs.Parts.{HoldsFrom}
 use Rattle.jv_verify_words.specs.declared.insns.WordCells.{WordCells}
-
--- the topmost words of a stack hold a cell, and these stand below
-pub record LeavesCell (cell : Cell) (stack below : List VType) : Type 0 where
-  pub top : List VType
-  pub whole : stack ≡ below ++ top
-  pub holds : HoldsCell cell top
-
--- the topmost words of a stack hold these cells, and these stand below
-pub record LeavesCells (cells : List Cell) (stack below : List VType) : Type 0 where
-  pub top : List VType
-  pub whole : stack ≡ below ++ top
-  pub holds : HoldsCells cells top
-
--- the local variables from one on hold a cell
-abbrev pub HoldsFrom : List VType → ℕ → Cell → Type 0
-HoldsFrom locals local cell = HoldsCell cell (take (length (cell_words cell)) (drop local locals))
 
 -- what LocalHolds says, of the local variables alone
 abbrev pub ReadHolds : List VType → ℕ × Cell → Type 0

@@ -1,19 +1,10 @@
 ghost use Rattle.std.specs.Prelude.{◌≡◌, IfSome, IfNone};
-ghost use Rattle.jv_insn.specs.Meanings.{is_two};
-ghost use Rattle.jv_insn.specs.Effects.{is_load, is_store, local_of};
-ghost use Rattle.jv_frames.specs.Typing.{has_operands, IsWordInsn};
+ghost use Rattle.jv_insn.specs.Forms.{is_category_2};
+ghost use Rattle.jv_typing.specs.Typing.{has_operands, IsWordInsn};
 ghost use Rattle.jv_verify_words.specs.Parts.{IsWordRow, AreCellsOf};
 
 use jv_table::{Cell, Form, Kind, OpRow, opcode};
 use jv_types::{Arg, Const, Insn};
-
-/// The last opcode that loads a local variable.
-const LAST_LOAD: u8 = 45;
-
-/// The first opcodes that load and store the local variable 0 without an operand.
-const FIRST_LOAD: u8 = 26;
-
-const FIRST_STORE: u8 = 59;
 
 /// The cells that an instruction takes from the stack and gives to it, the topmost last.
 #[derive(Clone, Copy, Debug)]
@@ -22,41 +13,9 @@ pub struct WordCells {
     pub gives: &'static [Cell],
 }
 
-/// Whether an instruction loads a local variable.
-pub fn is_load(op: u8) -> bool
-    ensures { result ≡ is_load op }
-{
-    matches!(op, 21..=LAST_LOAD)
-}
-
-/// Whether an instruction stores a local variable.
-pub fn is_store(op: u8) -> bool
-    ensures { result ≡ is_store op }
-{
-    matches!(op, 54..=78)
-}
-
-/// The local variable that an instruction names.
-pub fn local_of(op: u8, arg: &Arg) -> u16
-    ensures { result ≡ local_of op arg.now }
-{
-    match arg {
-        Arg::Local(local) => *local,
-        Arg::Inc(local, _) => *local,
-        _ => {
-            let first = if op <= LAST_LOAD {
-                FIRST_LOAD
-            } else {
-                FIRST_STORE
-            };
-            u16::from(op.saturating_sub(first) % 4)
-        }
-    }
-}
-
-/// Whether a constant takes two words.
-fn is_two(constant: &Const) -> bool
-    ensures { result ≡ is_two constant.now }
+/// Whether a constant is of category 2.
+fn is_category_2(constant: &Const) -> bool
+    ensures { result ≡ is_category_2 constant.now }
 {
     matches!(constant, Const::Long(_) | Const::Double(_))
 }
@@ -70,7 +29,7 @@ fn has_operands(form: Form, arg: &Arg) -> bool
         Arg::Local(_) => matches!(form, Form::Local),
         Arg::Small(_) => matches!(form, Form::Small1 | Form::Small2),
         Arg::Inc(_, _) => matches!(form, Form::Inc),
-        Arg::Constant(constant) => is_two(constant) && matches!(form, Form::LoadTwo),
+        Arg::Constant(constant) => is_category_2(constant) && matches!(form, Form::LoadTwo),
         Arg::Jump(_) => matches!(form, Form::Jump2 | Form::Jump4),
         Arg::Table { .. } => matches!(form, Form::TableSwitch),
         Arg::Lookup { .. } => matches!(form, Form::LookupSwitch),

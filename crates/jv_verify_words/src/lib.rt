@@ -4,9 +4,7 @@
 
 mod insns;
 mod locals;
-mod pops;
 mod pushes;
 mod steps;
-mod words;
 
 pub use steps::word_step;

@@ -1,11 +1,8 @@
-ghost use Rattle.std.specs.Prelude.{◌≡◌, ◌≤◌, ◌<◌, ◌++◌, length, OnOk, IfOk, Err};
+ghost use Rattle.std.specs.Prelude.{◌≡◌, ◌++◌, OnOk, IfOk};
 ghost use Rattle.jv_verify_words.specs.Parts.{number_words, numbers_words};
-ghost use Rattle.jv_frames.specs.declared.no_typing.NoTyping.TheVariants as none;
 
-use crate::words::push_copies;
-use jv_frames::NoTyping;
 use jv_table::Cell;
-use jv_types::{Seq, VType};
+use jv_types::VType;
 use std::alloc::{AllocError, Global};
 
 /// Puts the words of a number at the end.
@@ -38,23 +35,11 @@ fn push_numbers(words: &mut Vec<VType>, cells: &[Cell]) -> Result<(), AllocError
     Ok(())
 }
 
-/// The stack of these words and of numbers on top of them, where it has at most so many words.
-pub fn stack_with(
-    alloc: Global,
-    below: &[VType],
-    gives: &[Cell],
-    max_stack: u16,
-) -> Result<Seq<VType>, NoTyping>
-    ensures ok { IfOk result (λ stack. stack ≡ below.now ++ numbers_words gives.now) }
-    ensures room { IfOk result (λ stack. length stack ≤ max_stack) }
-    ensures rule { result ≡ Err none.Rule → max_stack < length (below.now ++ numbers_words gives.now) }
+/// The words of numbers. Only memory can be wanting.
+pub fn numbers_words(alloc: Global, cells: &[Cell]) -> Result<Vec<VType>, AllocError>
+    ensures { IfOk result (λ words. words.items ≡ numbers_words cells.now) }
 {
     let mut words = Vec::new(alloc);
-    push_copies(alloc, &mut words, below)?;
-    push_numbers(&mut words, gives)?;
-    if words.len() <= usize::from(max_stack) {
-        Ok(Seq::from_vec(words))
-    } else {
-        Err(NoTyping::Rule)
-    }
+    push_numbers(&mut words, cells)?;
+    Ok(words)
 }

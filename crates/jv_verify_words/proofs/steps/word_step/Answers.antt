@@ -1,5 +1,5 @@
 use Rattle.std.proofs.lemmas.Result.{err_from_is_err_and}
-use Rattle.jv_frames.specs.declared.no_typing.NoTyping.TheVariants as none
+use Rattle.jv_typing.specs.declared.no_typing.NoTyping.TheVariants as none
 use Rattle.jv_verify_words.proofs.Stepping.{leaves_of, step_typed, no_room, no_store, same_error}
 use Rattle.jv_verify_words.proofs.steps.word_step.Goals as goal
 

@@ -1,5 +1,0 @@
-use Rattle.jv_frames.proofs.Moves.{have_forms}
-use Rattle.jv_frames.proofs.typing_laws.moves_have_their_forms.Goals as goal
-
-pub returns : goal.returns
-returns c = have_forms

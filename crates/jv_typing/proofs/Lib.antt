@@ -1,0 +1,4 @@
+mod Moves
+pub mod TypingOnce
+pub mod Popping
+mod Storing
