@@ -1,8 +1,10 @@
-ghost use Rattle.std.specs.Prelude.{◌≡◌, ◌++◌, OnOk, IfOk};
+ghost use Rattle.std.specs.Prelude.{◌≡◌, ◌≤◌, ◌<◌, ◌++◌, length, OnOk, IfOk, Err};
+ghost use Rattle.jv_typing.specs.declared.no_typing.NoTyping.TheVariants as none;
 ghost use Rattle.jv_verify_words.specs.Parts.{number_words, numbers_words};
 
 use jv_table::Cell;
-use jv_types::VType;
+use jv_types::{Seq, VType};
+use jv_typing::{NoTyping, stack_with};
 use std::alloc::{AllocError, Global};
 
 /// Puts the words of a number at the end.
@@ -36,10 +38,25 @@ fn push_numbers(words: &mut Vec<VType>, cells: &[Cell]) -> Result<(), AllocError
 }
 
 /// The words of numbers. Only memory can be wanting.
-pub fn numbers_words(alloc: Global, cells: &[Cell]) -> Result<Vec<VType>, AllocError>
+fn numbers_words(alloc: Global, cells: &[Cell]) -> Result<Vec<VType>, AllocError>
     ensures { IfOk result (λ words. words.items ≡ numbers_words cells.now) }
 {
     let mut words = Vec::new(alloc);
     push_numbers(&mut words, cells)?;
     Ok(words)
+}
+
+/// The stack of these words and of numbers on top of them, where it has at most so many words.
+pub fn stack_after(
+    alloc: Global,
+    below: &[VType],
+    gives: &[Cell],
+    max_stack: u16,
+) -> Result<Seq<VType>, NoTyping>
+    ensures ok { IfOk result (λ stack. stack ≡ below.now ++ numbers_words gives.now) }
+    ensures room { IfOk result (λ stack. length stack ≤ max_stack) }
+    ensures rule { result ≡ Err none.Rule → max_stack < length (below.now ++ numbers_words gives.now) }
+{
+    let given = numbers_words(alloc, gives)?;
+    stack_with(alloc, below, given.as_slice(), max_stack)
 }

@@ -5,9 +5,9 @@ ghost use Rattle.jv_typing.specs.declared.no_typing.NoTyping.TheVariants as none
 
 use crate::insns::word_cells;
 use crate::locals::{locals_after, reads_hold};
-use crate::pushes::numbers_words;
+use crate::pushes::stack_after;
 use jv_types::{Frame, Insn};
-use jv_typing::{NoTyping, below_cells, stack_with};
+use jv_typing::{NoTyping, below_cells};
 use std::alloc::Global;
 
 /// The frame after an instruction that works on words, as the verifier has it (JVMS 4.10.1.9). It is
@@ -36,9 +36,8 @@ pub fn word_step(
         return Err(NoTyping::Rule);
     }
     let (_, taken) = stack.split_at(below.len());
-    let given = numbers_words(alloc, cells.gives)?;
     Ok(Frame {
-        stack: stack_with(alloc, below, given.as_slice(), max_stack)?,
+        stack: stack_after(alloc, below, cells.gives, max_stack)?,
         locals: locals_after(alloc, locals, insn, taken)?,
         this_uninit: frame.this_uninit,
     })
