@@ -4,7 +4,7 @@ use crate::operands::arg_of;
 use crate::pools::pool;
 use jv_insn::{BadCode, decode};
 use jv_pool::Pool;
-use jv_types::{Body, Copied, RawHandler};
+use jv_types::{Arg, Body, Copied, RawHandler};
 use std::alloc::Global;
 use std::test::Fail;
 use tests_text::{hex, word};
@@ -64,6 +64,14 @@ pub fn body_of(
     Ok(decode(alloc, code, pool, [].as_slice(), 9, max_locals))
 }
 
+/// Whether the code of an opcode is decoded to the instruction with these operands.
+fn is_decoded(alloc: Global, pool: &Pool, op: u8, rest: &str, arg: &Arg) -> Result<bool, Fail> {
+    let code = code_of(alloc, op, rest)?;
+    let body = body_of(alloc, &code, pool, 4)??;
+    let insn = body.at(0).ok_or("an instruction")?;
+    Ok(insn.op == op && !insn.wide && insn.arg == *arg)
+}
+
 #[test]
 fn decodes_each_opcode(rt: HostRuntime) -> Result<(), Fail> {
     let alloc = rt.alloc();
@@ -72,11 +80,10 @@ fn decodes_each_opcode(rt: HostRuntime) -> Result<(), Fail> {
         let (_, operands) = line.split_once(" = ").ok_or("operands")?;
         let arg = arg_of(alloc, operands)?;
         for op in word(line, 0).parse::<u8>()?..=word(line, 1).parse::<u8>()? {
-            let code = code_of(alloc, op, word(line, 2))?;
-            let body = body_of(alloc, &code, &pool, 4)??;
-            let insn = body.at(0).ok_or("an instruction")?;
-            assert_eq!(rt; (insn.op, insn.wide), (op, false));
-            assert!(rt; insn.arg == arg, "at {op}");
+            assert!(rt;
+                is_decoded(alloc, &pool, op, word(line, 2), &arg)?,
+                "at {op}"
+            );
         }
     }
     Ok(())
@@ -102,9 +109,9 @@ push 2 next -
 wide 0 op 21
 wide 0 next 4
 table 20 op 177
-table 0 aa00000000000014000000000000000000000000b1 aa00000000000014000000000000000000000000b1
-table 0 aa00000000000014000000000000000000000000b1 aa00000000000014000000000000000000000000b1
-table 0 aa00000000000014000000000000000000000000b1 aa00000000000014000000000000000000000000b1
+table 0 0 20
+table 0 1 0
+table 0 2 -
 lookups 3 op 171
 lookups 3 0 12
 lookups 12 op 171
