@@ -139,9 +139,14 @@ const LIBRARY: &str = "\
     lib/Maker,C,,+sobjects:()[Ljava/lang/Object;,+sdeep:()[[Ljava/lang/Object; \
     lib/Bad,C,,+sf:(Lapp/Hidden;)V";
 
+/// The classes that a text stands for: those of the library, or its own.
+fn classes_of(text: &str) -> &str {
+    if text == "library" { LIBRARY } else { text }
+}
+
 /// The classes of a text, which may be `library`, and Object before them where they lack it.
 fn shapes_of(alloc: Global, text: &str) -> Result<Vec<Shape>, Fail> {
-    let classes = if text == "library" { LIBRARY } else { text };
+    let classes = classes_of(text);
     let mut shapes = Vec::new(alloc);
     if !classes.contains("java/lang/Object,C") {
         shapes.push(shape_of(alloc, OBJECT)?)?;
