@@ -6,7 +6,7 @@ use Rattle.std.proofs.lemmas.List.{append-nil}
 use Rattle.jv_pool.specs.declared.item.PoolItem.{PoolItem}
 use Rattle.jv_class.specs.declared.class_file.Member.{Member}
 use Rattle.jv_class.specs.declared.class_file.ClassFile.{ClassFile}
-use Rattle.jv_class.specs.ClassTexts.{IsField, IsMethod, KeepsRules, IsClass, ClassText}
+use Rattle.jv_class.specs.ClassTexts.{IsField, IsMethodMember, KeepsRules, IsClass, ClassText}
 use Rattle.jv_class.specs.Writing.{IsWritten}
 use Rattle.jv_class.specs.LayoutReading.{IsLaidOut}
 use Rattle.jv_class.specs.MemberPairs.{HasTexts, HaveTexts}
@@ -38,8 +38,8 @@ no_more c d bytes more p q = (same_front c d bytes (bytes ++ more) more [] (laid
 pub field_texts : (items : List PoolItem) (members : List Member) → AllByRecursion (IsField items) members → HaveTexts items members
 field_texts items members h = record { each = all_from (IsField items) (HasTexts items) (λ m f. record { name = record { text = f.name.text; found = f.name.found }; desc = record { text = f.descriptor.text; found = f.descriptor.found } }) members h }
 
-pub method_texts : (items : List PoolItem) (members : List Member) → AllByRecursion (IsMethod items) members → HaveTexts items members
-method_texts items members h = record { each = all_from (IsMethod items) (HasTexts items) (λ m f. record { name = record { text = f.name.text; found = f.name.found }; desc = record { text = f.descriptor.text; found = f.descriptor.found } }) members h }
+pub method_texts : (items : List PoolItem) (members : List Member) → AllByRecursion (IsMethodMember items) members → HaveTexts items members
+method_texts items members h = record { each = all_from (IsMethodMember items) (HasTexts items) (λ m f. record { name = record { text = f.name.text; found = f.name.found }; desc = record { text = f.descriptor.text; found = f.descriptor.found } }) members h }
 
 -- the answer that the rules aren't kept
 pub not_kept : (c : ClassFile) (keeps : Bool) → keeps ≡ false → IsTrue keeps ↔ KeepsRules c → KeepsRules c → ⊥

@@ -71,7 +71,7 @@ pub record IsField (items : List PoolItem) (m : Member) : Type 0 where
 -- a method has the name of a method and a method descriptor, whose words include a receiver unless it is
 -- static (JVMS 4.6, 4.3.3); it is not both static and abstract; and it has one attribute Code, or none where
 -- it is native or abstract (JVMS 4.7.3)
-pub record IsMethod (items : List PoolItem) (m : Member) : Type 0 where
+pub record IsMethodMember (items : List PoolItem) (m : Member) : Type 0 where
   pub name : HasText items m.name IsMethodName
   pub descriptor : HasText items m.desc (IsMethodDescriptor (not (is_static m)))
   pub flags : (is_static m && is_abstract m) ≡ false
@@ -110,7 +110,7 @@ pub record KeepsRules (c : ClassFile) : Type 0 where
   pub super_class : (c.super_class ≡ 0) ⊎ HasClassName c.pool c.super_class
   pub interfaces : AllByRecursion (HasClassName c.pool) c.interfaces
   pub fields : AllByRecursion (IsField c.pool) c.fields
-  pub methods : AllByRecursion (IsMethod c.pool) c.methods
+  pub methods : AllByRecursion (IsMethodMember c.pool) c.methods
   pub distinct_fields : AreDistinct c.pool c.fields
   pub distinct_methods : AreDistinct c.pool c.methods
 

@@ -3,7 +3,7 @@ use Rattle.std.specs.Prelude.{◌≡◌, ◌⊎◌}
 use Rattle.std.specs.List.{AllByRecursion}
 use Rattle.jv_names.specs.PoolNames.{HasClassName, IsNamedPool}
 use Rattle.jv_class.specs.declared.class_file.ClassFile.{ClassFile}
-use Rattle.jv_class.specs.ClassTexts.{IsField, IsMethod, AreDistinct}
+use Rattle.jv_class.specs.ClassTexts.{IsField, IsMethodMember, AreDistinct}
 
 -- each name and each descriptor is right, and so are the codes
 pub record NamesRight (c : ClassFile) : Type 0 where
@@ -12,7 +12,7 @@ pub record NamesRight (c : ClassFile) : Type 0 where
   pub super_class : (c.super_class ≡ 0) ⊎ HasClassName c.pool c.super_class
   pub interfaces : AllByRecursion (HasClassName c.pool) c.interfaces
   pub fields : AllByRecursion (IsField c.pool) c.fields
-  pub methods : AllByRecursion (IsMethod c.pool) c.methods
+  pub methods : AllByRecursion (IsMethodMember c.pool) c.methods
 
 -- no two fields, and no two methods, share name and descriptor
 pub record HasDistinct (c : ClassFile) : Type 0 where

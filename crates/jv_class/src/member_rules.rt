@@ -1,6 +1,6 @@
 ghost use Rattle.std.specs.Prelude.{◌≡◌, ◌↔◌, ◌&&◌, ◌||◌, false, not, IsTrue, count_by, if◌then◌else◌};
 ghost use Rattle.std.specs.List.{AllByRecursion};
-ghost use Rattle.jv_class.specs.ClassTexts.{has_flag, is_static, is_native, is_abstract, is_code, IsField, IsMethod};
+ghost use Rattle.jv_class.specs.ClassTexts.{has_flag, is_static, is_native, is_abstract, is_code, IsField, IsMethodMember};
 ghost use Rattle.jv_class.specs.Kinds.{IsOfKind, AreKept};
 ghost use Rattle.jv_names.specs.PoolNames.{HasText, HasClassName};
 ghost use Rattle.jv_names.specs.Spellings.{IsMethodDescriptor};
@@ -78,7 +78,7 @@ fn is_field(pool: &Pool, kept: &[Option<TextKinds>], member: &Member) -> bool
 /// Whether a method keeps the rules (JVMS 4.6).
 fn is_method(pool: &Pool, kept: &[Option<TextKinds>], member: &Member) -> bool
     requires { AreKept pool.now kept.now }
-    ensures { IsTrue result ↔ IsMethod pool.now member.now }
+    ensures { IsTrue result ↔ IsMethodMember pool.now member.now }
 {
     names_text(pool, kept, member.name, Kind::MethodName)
         && has_descriptor(pool, kept, member)
@@ -102,7 +102,7 @@ pub fn are_fields(pool: &Pool, kept: &[Option<TextKinds>], members: &[Member]) -
 /// Whether each method keeps the rules.
 pub fn are_methods(pool: &Pool, kept: &[Option<TextKinds>], members: &[Member]) -> bool
     requires { AreKept pool.now kept.now }
-    ensures { IsTrue result ↔ AllByRecursion (IsMethod pool.now) members.now }
+    ensures { IsTrue result ↔ AllByRecursion (IsMethodMember pool.now) members.now }
 {
     for member in members {
         if !is_method(pool, kept, member) {

@@ -1,6 +1,6 @@
 ghost use Rattle.std.specs.Prelude.{◌≡◌, ◌⊎◌, IfOk, Some};
 ghost use Rattle.std.specs.List.{AllZip, AllByRecursion};
-ghost use Rattle.jv_class.specs.ClassTexts.{IsField, IsMethod, IsClass};
+ghost use Rattle.jv_class.specs.ClassTexts.{IsField, IsMethodMember, IsClass};
 ghost use Rattle.jv_class.specs.PoolTexts.{IsText};
 ghost use Rattle.jv_class.specs.Shapes.{IsFieldShape, IsMethodShape, IsParent, IsShapeOf};
 ghost use Rattle.jv_types.specs.declared.desc.MethodDesc.{MethodDesc as Methods};
@@ -91,7 +91,7 @@ fn fields_of(alloc: Global, pool: &Pool, members: &[Member]) -> Result<Seq<Field
 
 /// The method that a member declares.
 fn method_of(alloc: Global, pool: &Pool, member: &Member) -> Result<MethodShape, AllocError>
-    requires { IsMethod pool.now member.now }
+    requires { IsMethodMember pool.now member.now }
     ensures { IfOk result (IsMethodShape pool.now member.now) }
 {
     let name = Name::from_slice(alloc, text_at(pool, member.name))?;
@@ -110,7 +110,7 @@ fn methods_of(
     pool: &Pool,
     members: &[Member],
 ) -> Result<Seq<MethodShape>, AllocError>
-    requires { AllByRecursion (IsMethod pool.now) members.now }
+    requires { AllByRecursion (IsMethodMember pool.now) members.now }
     ensures { IfOk result (λ methods. AllZip (IsMethodShape pool.now) members.now methods) }
 {
     let mut methods = Vec::new(alloc);

@@ -82,7 +82,7 @@ abbrev pub method_text : MethodDesc → List ℕ
 method_text d = 40 ∷ flat_map desc_text d.params ++ 41 ∷ result_text d.result
 
 -- a method whose types have descriptors
-pub record IsMethod (d : MethodDesc) : Type 0 where
+pub record IsMethodDesc (d : MethodDesc) : Type 0 where
   pub params : AllByRecursion IsDesc d.params
   pub result : IsResult d.result
 
@@ -93,7 +93,7 @@ pub record IsFieldText (bytes : List ℕ) (d : desc.Desc) : Type 0 where
 
 -- the bytes are the descriptor of this method (JVMS 4.3.3)
 pub record IsMethodText (bytes : List ℕ) (d : MethodDesc) : Type 0 where
-  pub valid : IsMethod d
+  pub valid : IsMethodDesc d
   pub spelled : bytes ≡ method_text d
 
 -- how many words an argument of a type takes: two for `long` and `double`, and else one

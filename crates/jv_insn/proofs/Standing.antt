@@ -24,7 +24,7 @@ use Rattle.jv_types.specs.declared.instruction.Const.TheVariants as consts
 use Rattle.jv_types.specs.declared.instruction.Arg.{Arg}
 use Rattle.jv_types.specs.declared.instruction.Arg.TheVariants as args
 use Rattle.jv_types.specs.declared.instruction.Insn.{Insn}
-use Rattle.jv_desc.specs.Texts.{prim_letter, desc_text, method_text, ref_dims, IsRef, IsDesc, IsMethod, words_of}
+use Rattle.jv_desc.specs.Texts.{prim_letter, desc_text, method_text, ref_dims, IsRef, IsDesc, IsMethodDesc, words_of}
 use Rattle.jv_pool.specs.declared.item.PoolItem.{PoolItem}
 use Rattle.jv_pool.specs.declared.item.PoolItem.TheVariants as items
 use Rattle.jv_insn.specs.declared.written.Operands.{Operands}

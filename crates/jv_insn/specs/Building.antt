@@ -17,7 +17,7 @@ use Rattle.jv_types.specs.declared.instruction.Const.TheVariants as consts
 use Rattle.jv_types.specs.declared.instruction.Arg.{Arg}
 use Rattle.jv_types.specs.declared.instruction.Arg.TheVariants as args
 use Rattle.jv_types.specs.declared.instruction.Insn.{Insn}
-use Rattle.jv_desc.specs.Texts.{ref_dims, IsRef, IsDesc, IsMethod, words_of}
+use Rattle.jv_desc.specs.Texts.{ref_dims, IsRef, IsDesc, IsMethodDesc, words_of}
 use Rattle.jv_insn.specs.Effects.{op_row, local_of}
 use Rattle.jv_insn.specs.Forms.{is_category_2}
 use Rattle.jv_insn.specs.Meanings.{FitsOp, MayCall, has_local}
@@ -40,7 +40,7 @@ FitsFar insns pc arg = (target : ℕ) × (arg ≡ args.Jump target) × IsStart i
 
 -- A method that is named, of a class or array type that has a name.
 abbrev pub IsFormedMethod : MethodRef → Type 0
-IsFormedMethod method = IsRef 255 method.class × IsMethod method.desc
+IsFormedMethod method = IsRef 255 method.class × IsMethodDesc method.desc
 
 -- Operands of this layout that fit their bytes, name what the opcode may name, and lead to instructions of the
 -- code. Nothing is said of switches here.

@@ -10,7 +10,7 @@ use Rattle.jv_types.specs.declared.instruction.Const.TheVariants as consts
 use Rattle.jv_types.specs.declared.instruction.Arg.{Arg}
 use Rattle.jv_types.specs.declared.instruction.Arg.TheVariants as args
 use Rattle.jv_types.specs.declared.instruction.Insn.{Insn}
-use Rattle.jv_desc.specs.Texts.{ref_dims, IsRef, IsDesc, IsMethod, words_of}
+use Rattle.jv_desc.specs.Texts.{ref_dims, IsRef, IsDesc, IsMethodDesc, words_of}
 use Rattle.jv_names.specs.Spellings.{IsClassName, IsFieldName, IsCalledName}
 use Rattle.jv_insn.specs.Meanings.{FitsOp, MayCall}
 use Rattle.jv_insn.specs.Encoding.{form_of}
@@ -27,7 +27,7 @@ pub record KeepsField (field : FieldRef) : Type 0 where
 pub record KeepsMethod (op : ℕ) (method : MethodRef) : Type 0 where
   pub class : IsRef 255 method.class
   pub name : IsCalledName method.name
-  pub desc : IsMethod method.desc
+  pub desc : IsMethodDesc method.desc
   pub words : words_of method.desc false ≤ 255
   pub may_call : form_of op ≡ forms.Method → MayCall op method
   pub interface : form_of op ≡ forms.InterfaceMethod → (method.interface ≡ true) × (words_of method.desc true ≤ 255)
