@@ -16,8 +16,8 @@ use Rattle.jv_attr.specs.declared.frame.MapType.{MapType}
 use Rattle.jv_attr.specs.declared.frame.MapFrame.{MapFrame}
 use Rattle.jv_attr.specs.FrameText.{group_of}
 use Rattle.jv_names.specs.Naming.{NamesType}
-use Rattle.jv_names.specs.declared.fault.ReadFault.{ReadFault}
-use Rattle.jv_names.specs.declared.fault.ReadFault.TheVariants as faults
+use Rattle.jv_read.specs.declared.fault.ReadFault.{ReadFault}
+use Rattle.jv_read.specs.declared.fault.ReadFault.TheVariants as faults
 use Rattle.jv_frames.specs.Types.{ref_vtype}
 use Rattle.jv_names.specs.Finding.{NoneFor, Finds}
 use Rattle.jv_names.proofs.NamedOnce.{one_type}

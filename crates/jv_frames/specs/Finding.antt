@@ -2,8 +2,8 @@
 use Rattle.std.specs.Prelude.{List, Result, Ok, Err}
 use Rattle.std.specs.declared.alloc.Global.{Global}
 use Rattle.std.specs.declared.vec.Vec.{Vec}
-use Rattle.jv_names.specs.declared.fault.ReadFault.{ReadFault}
-use Rattle.jv_names.specs.declared.fault.ReadFault.TheVariants as faults
+use Rattle.jv_read.specs.declared.fault.ReadFault.{ReadFault}
+use Rattle.jv_read.specs.declared.fault.ReadFault.TheVariants as faults
 use Rattle.jv_names.specs.Finding.{NoneFor}
 
 -- a list with the property, or no list has it, unless memory ran out

@@ -7,8 +7,8 @@ ghost use Rattle.jv_frames.specs.Maps.{frame_delta, IsFront, IsLonger, AreLocals
 use crate::map_types::types_of;
 use crate::words::word_count;
 use jv_attr::{MapFrame, MapType};
-use jv_names::ReadFault;
 use jv_pool::Pool;
+use jv_read::ReadFault;
 use jv_table::{FrameGroup, frame_kind, frame_tags, ops};
 use jv_types::{Body, VType};
 use std::alloc::Global;

@@ -6,8 +6,9 @@ ghost use Rattle.jv_frames.specs.Maps.{plain_type, IsNumbered, IsTypeOf};
 
 use crate::descriptors::ref_vtype;
 use jv_attr::MapType;
-use jv_names::{ReadFault, type_at};
+use jv_names::type_at;
 use jv_pool::Pool;
+use jv_read::ReadFault;
 use jv_table::vtype_tags;
 use jv_types::VType;
 use std::alloc::Global;

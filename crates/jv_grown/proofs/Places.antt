@@ -8,7 +8,7 @@ use Rattle.jv_pool.specs.declared.item.PoolItem.TheVariants as items
 use Rattle.jv_pool.specs.Lookups.{item_at}
 use Rattle.jv_pool.specs.PoolText.{is_hole, is_wide}
 use Rattle.jv_pool.specs.Adding.{HasItem, slots_of}
-use Rattle.jv_pool.proofs.Fronts.{some_is}
+use Rattle.jv_read.proofs.Fronts.{some_is}
 use Rattle.jv_grown.specs.Once.{AreOnce}
 
 item_at-suc : (xs : List PoolItem) (j : ℕ) → item_at xs (suc j) ≡ slice_get xs j

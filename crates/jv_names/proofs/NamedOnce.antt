@@ -12,7 +12,7 @@ use Rattle.jv_desc.specs.Texts.{IsFieldText, IsMethodText}
 use Rattle.jv_desc.proofs.Agreement.{one_field, one_method}
 use Rattle.jv_pool.specs.declared.item.PoolItem.{PoolItem}
 use Rattle.jv_pool.specs.Lookups.{item_at, class_name_at}
-use Rattle.jv_pool.proofs.Fronts.{some_is}
+use Rattle.jv_read.proofs.Fronts.{some_is}
 use Rattle.jv_names.specs.Naming.{IsTypeText, type_text, NamesType, NamesClass, texts_at, field_in, method_in, NamesField, NamesMethod}
 
 -- what was given twice is one value

@@ -5,8 +5,8 @@ use Rattle.jv_types.specs.declared.desc.RefType.{RefType}
 use Rattle.jv_types.specs.declared.desc.Desc.TheVariants as descs
 use Rattle.jv_desc.specs.Texts.{IsFieldText}
 use Rattle.jv_desc.proofs.Agreement.{one_field}
-use Rattle.jv_names.specs.declared.fault.ReadFault.{ReadFault}
-use Rattle.jv_names.specs.declared.fault.ReadFault.TheVariants as faults
+use Rattle.jv_read.specs.declared.fault.ReadFault.{ReadFault}
+use Rattle.jv_read.specs.declared.fault.ReadFault.TheVariants as faults
 use Rattle.jv_names.specs.Finding.{NoneFor}
 
 -- where there would be one of these, there would be one of those

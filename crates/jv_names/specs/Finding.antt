@@ -1,7 +1,7 @@
 -- What a search answers: a value with a property, or that there is none.
 use Rattle.std.specs.Prelude.{Result, Ok, Err}
-use Rattle.jv_names.specs.declared.fault.ReadFault.{ReadFault}
-use Rattle.jv_names.specs.declared.fault.ReadFault.TheVariants as faults
+use Rattle.jv_read.specs.declared.fault.ReadFault.{ReadFault}
+use Rattle.jv_read.specs.declared.fault.ReadFault.TheVariants as faults
 
 abbrev pub NoneFor : {X : Type 0} → (X → Type 0) → ReadFault → Type 0
 NoneFor {X} P faults.Bad = (x : X) → P x → ⊥

@@ -2,4 +2,4 @@ pub mod Spellings
 pub mod PoolNames
 pub mod Naming
 pub mod Finding
-pub mod Borrowed
+pub mod Steps

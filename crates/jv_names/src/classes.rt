@@ -4,9 +4,9 @@ ghost use Rattle.jv_desc.specs.Texts.{IsFieldText};
 ghost use Rattle.jv_names.specs.Naming.{IsTypeText, type_text, NamesType, NamesClass};
 ghost use Rattle.jv_names.specs.Finding.{Finds};
 
-use crate::fault::ReadFault;
 use jv_desc::{BadDesc, field_desc, show_field};
 use jv_pool::Pool;
+use jv_read::ReadFault;
 use jv_types::{Desc, Name, RefType, is_class_name};
 use std::alloc::{AllocError, Global};
 

@@ -6,12 +6,10 @@ ghost use Rattle.std.specs.Prelude.{◌≡◌, ℕ, List};
 ghost use Rattle.jv_names.specs.Spellings.{IsArrayDescriptor, IsClassName};
 
 mod classes;
-mod fault;
 mod laws;
 mod members;
 
 pub use classes::{class_at, type_at, type_text};
-pub use fault::ReadFault;
 pub use laws::{indices_name_one, types_have_one_text};
 pub use members::{field_at, method_at};
 

@@ -2,13 +2,13 @@ ghost use Rattle.std.specs.Prelude.{◌≡◌, option_and_then};
 ghost use Rattle.jv_desc.specs.Texts.{IsFieldText, IsMethodText};
 ghost use Rattle.jv_pool.specs.Lookups.{item_at};
 ghost use Rattle.jv_names.specs.Naming.{texts_at, field_in, method_in, NamesField, NamesMethod};
-ghost use Rattle.jv_names.specs.Borrowed.{lent_pair};
+ghost use Rattle.jv_names.specs.Steps.Borrowed.{lent_pair};
 ghost use Rattle.jv_names.specs.Finding.{Finds};
 
 use crate::classes::{class_at, type_at};
-use crate::fault::ReadFault;
 use jv_desc::{BadDesc, field_desc, method_desc};
 use jv_pool::{Pool, PoolItem};
+use jv_read::ReadFault;
 use jv_types::{Desc, FieldRef, MethodDesc, MethodRef, Name};
 use std::alloc::Global;
 
