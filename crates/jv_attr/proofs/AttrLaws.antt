@@ -19,7 +19,7 @@ use Rattle.std.specs.declared.convert.Infallible.{Infallible as NoCode}
 use Rattle.jv_attr.specs.declared.owner.Owner as owners
 use Rattle.jv_attr.specs.declared.owner.Owner.TheVariants as owner
 use Rattle.jv_attr.specs.FrameText.{frames_text}
-use Rattle.jv_attr.specs.AttrText.{is_code, is_maps, body_text, IsBody, HasFewWith, IsShortWith, no_code_text, IsNoCode, inner_text, IsInner, IsInnerFew, IsInnerShort, has_maps, handler_text, is_catch, IsHandler, code_text, IsCode, IsFewCode, IsShortCode, attr_text, IsAttr, HasFew, IsShort, IsAttrText, BeginsWithAttr}
+use Rattle.jv_attr.specs.AttrText.{is_code, is_maps, body_text, IsBody, HasFewWith, IsShortWith, no_code_text, IsNoCode, inner_text, IsInner, IsInnerFew, IsInnerShort, has_maps, handler_text, is_catch, IsRawHandler, code_text, IsCode, IsFewCode, IsShortCode, attr_text, IsAttr, HasFew, IsShort, IsAttrText, BeginsWithAttr}
 use Rattle.jv_read.specs.Reading.{counted_at}
 use Rattle.jv_attr.specs.AttrReading.{maps_at, head_at, other_at, inner_at, handler_at, handlers_at, code_bytes_at, inners_at, code_at, whole_code_at, body_at, attr_at}
 use Rattle.jv_read.proofs.Many.{counted_take, counted_again}
@@ -153,7 +153,7 @@ inners_again pool major attrs rest h few one =
 
 -- ---- handlers
 
-handler_takes : (pool : List PoolItem) (bytes : List ℕ) (x : RawHandler × List ℕ) → handler_at pool bytes ≡ Some x → IsHandler pool x.0 × (bytes ≡ handler_text x.0 ++ x.1)
+handler_takes : (pool : List PoolItem) (bytes : List ℕ) (x : RawHandler × List ℕ) → handler_at pool bytes ≡ Some x → IsRawHandler pool x.0 × (bytes ≡ handler_text x.0 ++ x.1)
 unfolding handler_at
 handler_takes pool bytes x e =
     let a = bind_some (number_at 2 bytes) (λ s. number_at 2 s.1 >>= λ n. number_at 2 n.1 >>= λ t. number_at 2 t.1 >>= λ c. cond (is_catch pool c.0) (Some (record { start = s.0; end = n.0; target = t.0; catch = c.0 }, c.1)) None) x e in
@@ -169,10 +169,10 @@ handler_takes pool bytes x e =
     let two = joined bytes (u2 a.0.0) (u2 b.0.0) a.0.1 b.0.1 p.0 q.0 in
     let three = joined bytes (u2 a.0.0 ++ u2 b.0.0) (u2 c.0.0) b.0.1 c.0.1 two r.0 in
     let four = joined bytes ((u2 a.0.0 ++ u2 b.0.0) ++ u2 c.0.0) (u2 d.0.0) c.0.1 d.0.1 three s.0 in
-    given_as (λ (y : RawHandler × List ℕ). IsHandler pool y.0 × (bytes ≡ handler_text y.0 ++ y.1)) made x g.1
+    given_as (λ (y : RawHandler × List ℕ). IsRawHandler pool y.0 × (bytes ≡ handler_text y.0 ++ y.1)) made x g.1
     (record { start = p.1; end = q.1; target = r.1; catch = s.1; class = g.0 }, four)
 
-handler_again : (pool : List PoolItem) (h : RawHandler) (rest : List ℕ) → IsHandler pool h → handler_at pool (handler_text h ++ rest) ≡ Some (h, rest)
+handler_again : (pool : List PoolItem) (h : RawHandler) (rest : List ℕ) → IsRawHandler pool h → handler_at pool (handler_text h ++ rest) ≡ Some (h, rest)
 unfolding handler_at
 handler_again pool h rest i =
     let four = u2 h.catch ++ rest in
@@ -190,12 +190,12 @@ handler_again pool h rest i =
     some_handler x = Some x
 
 handlers_take : (pool : List PoolItem) (bytes : List ℕ) (x : List RawHandler × List ℕ) → handlers_at pool bytes ≡ Some x
-    → AllByRecursion (IsHandler pool) x.0 × (length x.0 < 2 ^ 16) × (bytes ≡ (u2 (length x.0) ++ flat_map handler_text x.0) ++ x.1)
-handlers_take pool bytes x e = counted_take (handler_at pool) handler_text (IsHandler pool) (handler_takes pool) bytes x e
+    → AllByRecursion (IsRawHandler pool) x.0 × (length x.0 < 2 ^ 16) × (bytes ≡ (u2 (length x.0) ++ flat_map handler_text x.0) ++ x.1)
+handlers_take pool bytes x e = counted_take (handler_at pool) handler_text (IsRawHandler pool) (handler_takes pool) bytes x e
 
-handlers_again : (pool : List PoolItem) (handlers : List RawHandler) (rest : List ℕ) → AllByRecursion (IsHandler pool) handlers → length handlers < 2 ^ 16
+handlers_again : (pool : List PoolItem) (handlers : List RawHandler) (rest : List ℕ) → AllByRecursion (IsRawHandler pool) handlers → length handlers < 2 ^ 16
     → handlers_at pool ((u2 (length handlers) ++ flat_map handler_text handlers) ++ rest) ≡ Some (handlers, rest)
-handlers_again pool handlers rest h few = counted_again (handler_at pool) handler_text (IsHandler pool) (handler_again pool) handlers rest h few
+handlers_again pool handlers rest h few = counted_again (handler_at pool) handler_text (IsRawHandler pool) (handler_again pool) handlers rest h few
 
 -- neither test passed
 both_false : (p q : Bool) → (p || q) ≡ false → (p ≡ false) × (q ≡ false)

@@ -11,21 +11,21 @@ use Rattle.jv_read.specs.Reading.{◌>>=◌, u1_at, number_at}
 use Rattle.jv_read.proofs.Fronts.{bind_some, bind_is, past_true, given_as, joined, u1_takes, u1_again, number_takes, number_again}
 use Rattle.jv_attr.specs.declared.frame.MapType.{MapType}
 use Rattle.jv_attr.specs.declared.frame.MapFrame.{MapFrame}
-use Rattle.jv_attr.specs.FrameText.{has_arg, group_of, arg_text, type_text, IsArg, is_typed, IsType, types_text, parts_text, frame_text, HasParts, IsFrame, HasFewParts, HasFewTypes, frames_text, AreFewFrames}
+use Rattle.jv_attr.specs.FrameText.{has_arg, group_of, type_arg_text, type_text, IsArg, is_typed, IsType, types_text, parts_text, frame_text, HasParts, IsFrame, HasFewParts, HasFewTypes, frames_text, AreFewFrames}
 use Rattle.jv_read.specs.Reading.{many_at}
 use Rattle.jv_attr.specs.AttrReading.{arg_at, type_at, types_at, counted_types_at, same_one_at, same_one_extended_at, delta_at, append_at, full_at, parts_at, frame_at, frames_at, maps_at}
 use Rattle.jv_read.proofs.Many.{many_take, many_again, counted_take, counted_again, both_of, first_of_both, second_of_both}
 
 -- ---- verification types
 
-arg_takes : (written : Bool) (bytes : List ℕ) (x : ℕ × List ℕ) → arg_at written bytes ≡ Some x → IsArg (Some written) x.0 × (bytes ≡ arg_text (Some written) x.0 ++ x.1)
+arg_takes : (written : Bool) (bytes : List ℕ) (x : ℕ × List ℕ) → arg_at written bytes ≡ Some x → IsArg (Some written) x.0 × (bytes ≡ type_arg_text (Some written) x.0 ++ x.1)
 unfolding arg_at
 arg_takes true bytes x e = let t = number_takes 2 bytes x e in (t.1, t.0)
 arg_takes false bytes x e =
     let made : ℕ × List ℕ = (0, bytes) in
     given_as (λ (y : ℕ × List ℕ). (y.0 ≡ 0) × (bytes ≡ y.1)) made x e (refl, refl)
 
-arg_again : (written : Bool) (arg : ℕ) (rest : List ℕ) → IsArg (Some written) arg → arg_at written (arg_text (Some written) arg ++ rest) ≡ Some (arg, rest)
+arg_again : (written : Bool) (arg : ℕ) (rest : List ℕ) → IsArg (Some written) arg → arg_at written (type_arg_text (Some written) arg ++ rest) ≡ Some (arg, rest)
 unfolding arg_at
 arg_again true arg rest h = number_again 2 arg rest h
 arg_again false arg rest h = ap (λ (n : ℕ). Some (n, rest)) (sym h)
@@ -40,17 +40,17 @@ type_takes pool bytes x e =
     let made : MapType × List ℕ = (record { tag = a.0.0; arg = c.0.0 }, c.0.1) in
     let g = past_true (is_typed pool a.0.0 c.0.0) (Some made) x c.2 in
     let s = u1_takes bytes a.0 a.1 in
-    let t = subst (λ (o : Option Bool). IsArg o c.0.0 × (a.0.1 ≡ arg_text o c.0.0 ++ c.0.1)) (sym b.1) (arg_takes b.0 a.0.1 c.0 c.1) in
+    let t = subst (λ (o : Option Bool). IsArg o c.0.0 × (a.0.1 ≡ type_arg_text o c.0.0 ++ c.0.1)) (sym b.1) (arg_takes b.0 a.0.1 c.0 c.1) in
     given_as (λ (y : MapType × List ℕ). IsType pool y.0 × (bytes ≡ type_text y.0 ++ y.1)) made x g.1
     (record { arg = t.0; class = g.0 }, s ∙ ap (λ (r : List ℕ). a.0.0 ∷ r) t.1)
 
 -- a verification type is read again, whatever follows
 type_again_by : (pool : List PoolItem) (t : MapType) (rest : List ℕ) (o : Option Bool) → has_arg t.tag ≡ o → IsArg o t.arg → is_typed pool t.tag t.arg ≡ true
-    → type_at pool (t.tag ∷ (arg_text o t.arg ++ rest)) ≡ Some (t, rest)
+    → type_at pool (t.tag ∷ (type_arg_text o t.arg ++ rest)) ≡ Some (t, rest)
 unfolding type_at
 type_again_by pool t rest None e h class = absurd h
 type_again_by pool t rest (Some written) e h class =
-    let bytes = arg_text (Some written) t.arg ++ rest in
+    let bytes = type_arg_text (Some written) t.arg ++ rest in
     bind_is (u1_at (t.tag ∷ bytes)) (λ tag. has_arg tag.0 >>= λ written. arg_at written tag.1 >>= λ arg. cond (is_typed pool tag.0 arg.0) (Some (record { tag = tag.0; arg = arg.0 }, arg.1)) None) (t.tag, bytes) (u1_again t.tag bytes)
     ∙ bind_is (has_arg t.tag) (λ written. arg_at written bytes >>= λ arg. cond (is_typed pool t.tag arg.0) (Some (record { tag = t.tag; arg = arg.0 }, arg.1)) None) written e
     ∙ bind_is (arg_at written bytes) (λ arg. cond (is_typed pool t.tag arg.0) (Some (record { tag = t.tag; arg = arg.0 }, arg.1)) None) (t.arg, rest) (arg_again written t.arg rest h)

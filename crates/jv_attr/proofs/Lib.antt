@@ -1,4 +1,3 @@
-pub mod Many
 pub mod FrameLaws
 pub mod AttrLaws
 pub mod FewLaws

@@ -97,7 +97,7 @@ handler_text h = u2 h.start ++ u2 h.end ++ u2 h.target ++ u2 h.catch
 abbrev pub is_catch : List PoolItem → ℕ → Bool
 is_catch pool catch = catch == 0 || names is_class pool catch
 
-pub record IsHandler (pool : List PoolItem) (h : RawHandler) : Type 0 where
+pub record IsRawHandler (pool : List PoolItem) (h : RawHandler) : Type 0 where
   pub start : h.start < 2 ^ 16
   pub end : h.end < 2 ^ 16
   pub target : h.target < 2 ^ 16
@@ -114,7 +114,7 @@ pub record IsCode (pool : List PoolItem) (major : ℕ) (c : CodeAttr) : Type 0 w
   pub max_stack : c.max_stack < 2 ^ 16
   pub max_locals : c.max_locals < 2 ^ 16
   pub not_empty : 0 < length c.code
-  pub handlers : AllByRecursion (IsHandler pool) c.handlers
+  pub handlers : AllByRecursion (IsRawHandler pool) c.handlers
   pub attrs : AllByRecursion (IsInner pool major) c.attrs
   pub one_map : count_by has_maps c.attrs ≤ 1
 

@@ -23,12 +23,12 @@ unfoldable pub group_of : ℕ → Option FrameGroup
 group_of kind = option_map (λ (row : FrameRow). row.group) (row_of nat_cmp kind frame_kind_rows)
 
 -- the text of a verification type: its tag, and its number where it has one
-abbrev pub arg_text : Option Bool → ℕ → List ℕ
-arg_text (Some true) arg = u2 arg
-arg_text _ arg = []
+abbrev pub type_arg_text : Option Bool → ℕ → List ℕ
+type_arg_text (Some true) arg = u2 arg
+type_arg_text _ arg = []
 
 abbrev pub type_text : MapType → List ℕ
-type_text t = t.tag ∷ arg_text (has_arg t.tag) t.arg
+type_text t = t.tag ∷ type_arg_text (has_arg t.tag) t.arg
 
 -- the tag is known, and a number that isn't written is 0
 abbrev pub IsArg : Option Bool → ℕ → Type 0
