@@ -5,5 +5,5 @@ mod Composing
 mod References
 pub mod Determined
 mod Mapping
-mod OneAnswer
+pub mod OneAnswer
 mod Written

@@ -1,0 +1,8 @@
+//! Laws of the verifier's definitions: an instruction leads to one frame, a method has one table of frames,
+//! and a method that has one is kind safe (JVMS 4.10.1). Each function does nothing, and its contract is the
+//! law.
+#![tactic(auto)]
+
+mod one_frame;
+
+pub use one_frame::{initial_frame_is_one, typing_has_one_frame};
