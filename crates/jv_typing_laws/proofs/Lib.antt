@@ -1,1 +1,3 @@
-mod OneFrame
+pub mod OneFrame
+pub mod Rows
+pub mod Forced

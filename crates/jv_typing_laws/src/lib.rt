@@ -4,5 +4,7 @@
 #![tactic(auto)]
 
 mod one_frame;
+mod one_table;
 
 pub use one_frame::{initial_frame_is_one, typing_has_one_frame};
+pub use one_table::{forced_frame_is_one, map_frames_rise, table_is_forced, table_is_one};
