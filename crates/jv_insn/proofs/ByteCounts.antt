@@ -16,7 +16,7 @@ use Rattle.jv_types.specs.declared.instruction.Insn.{Insn}
 use Rattle.jv_desc.specs.Texts.{words_of}
 use Rattle.jv_pool.specs.declared.item.PoolItem.{PoolItem}
 use Rattle.jv_insn.specs.Layouts.{s4_text, padding_at, head_text}
-use Rattle.jv_insn.specs.Encoding.{form_of, is_narrow, small_text, signed_text, behind_method, branch_offset, jump_text, padding_text, table_text, case_text, lookup_text, arg_text, index_in, insn_text, is_left_out, number_size, method_size, jump_size, arg_size, insn_size, atype_of}
+use Rattle.jv_insn.specs.Encoding.{form_of, is_narrow, small_text, signed_text, behind_method, branch_offset, jump_text, padding_text, table_text, case_text, lookup_text, operand_text, index_in, insn_text, is_left_out, number_size, method_size, jump_size, arg_size, insn_size, atype_of}
 
 small_size : (narrow : Bool) (number : ℕ) → length (small_text narrow number) ≡ number_size narrow
 small_size true number = length-number_text 1 number
@@ -89,7 +89,7 @@ lookup_size pc default cases =
     sum : (n : ℕ) → 4 + (4 + n) ≡ 8 + n
     sum n = omega arith
 
-operands_size : (form : Form) (wide : Bool) (pc : ℕ) (arg : Arg) (index : ℕ) → is_left_out arg ≡ false → length (arg_text form wide pc arg index) ≡ arg_size form wide pc arg
+operands_size : (form : Form) (wide : Bool) (pc : ℕ) (arg : Arg) (index : ℕ) → is_left_out arg ≡ false → length (operand_text form wide pc arg index) ≡ arg_size form wide pc arg
 operands_size form wide pc args.Nothing index e = refl
 operands_size form wide pc (args.Local local) index e = small_size (is_narrow form wide) local
 operands_size form wide pc (args.Small value) index e = signed_size (is_narrow form wide) value
@@ -109,5 +109,5 @@ operands_size form wide pc (args.Lookup default cases) index e = lookup_size pc 
 pub size_of_text : (pool : List PoolItem) (pc : ℕ) (insn : Insn) → is_left_out insn.arg ≡ false → length (insn_text pool pc insn) ≡ insn_size pc insn
 size_of_text pool pc insn e =
     let head = head_text insn.wide insn.op in
-    let text = arg_text (form_of insn.op) insn.wide pc insn.arg (index_in pool insn.arg) in
+    let text = operand_text (form_of insn.op) insn.wide pc insn.arg (index_in pool insn.arg) in
     both head text (length head) (arg_size (form_of insn.op) insn.wide pc insn.arg) refl (operands_size (form_of insn.op) insn.wide pc insn.arg (index_in pool insn.arg) e)

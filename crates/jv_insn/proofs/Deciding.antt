@@ -9,7 +9,7 @@ use Rattle.jv_types.specs.declared.body.Handler.{Handler}
 use Rattle.jv_pool.specs.declared.item.PoolItem.{PoolItem}
 use Rattle.jv_insn.specs.declared.written.Written.{Written}
 use Rattle.jv_insn.specs.Decoding.{IsRow, FailsInsn, FailsHandler}
-use Rattle.jv_insn.specs.Rows.{IsFirst, AreInsns, AreHandlers}
+use Rattle.jv_insn.specs.Steps.Rows.{IsFirst, AreInsns, AreHandlers}
 use Rattle.jv_insn.proofs.RowLoops.{no_insn_fails, no_handler_fails, insns_rise}
 
 module _ {Z : Type 0} (pool : List PoolItem) (max_locals : ℕ) (rows : List (ℕ × Written)) (answer : Result (Vec (ℕ × Insn) Z) ℕ) where

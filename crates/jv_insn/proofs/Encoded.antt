@@ -17,8 +17,8 @@ use Rattle.jv_insn.specs.Layouts.{head_text, IsInsnText, BeginsWithInsn, AtEnd, 
 use Rattle.jv_insn.specs.Meanings.{IsInsn}
 use Rattle.jv_insn.specs.Decoding.{IsRow, IsHandler, Decodes}
 use Rattle.jv_insn.specs.Entries.{entry_of, arg_place, Grows}
-use Rattle.jv_insn.specs.Encoding.{form_of, arg_text, index_in, insn_text, code_text, is_left_out, insn_size, IsSpelled, StandsNear, MayStand, AreLaid, HasPlaces, MayEncode, NamesHandler, DecodesTo}
-use Rattle.jv_insn.specs.Writing.{FitsArg, IsSpelledInsn, MayPut}
+use Rattle.jv_insn.specs.Encoding.{form_of, operand_text, index_in, insn_text, insns_text, is_left_out, insn_size, IsSpelled, StandsNear, MayStand, AreLaid, HasPlaces, MayEncode, NamesHandler, DecodesTo}
+use Rattle.jv_insn.specs.Steps.Writing.{FitsArg, IsSpelledInsn, MayPut}
 use Rattle.jv_insn.proofs.Placed.{arg_later, index_is}
 use Rattle.jv_insn.proofs.Rewriting.{Starts, layout_row, again}
 use Rattle.jv_insn.proofs.Tables.{ldc_alone}
@@ -52,17 +52,17 @@ insn_again old max_locals rows pool pc w text insn h t ready =
     (record { small = ready.small; whole = ready.whole; placed = ready.placed }) in
     let form_is : form_of insn.op ≡ form = ap form_of h.op ∙ ap (λ (o : Option OpForm). option_map_or (λ (row : OpForm). row.form) o forms.Nothing) h.known in
     let index_same : index_in pool insn.arg ≡ index = index_is pool insn.arg index ready.placed in
-    let spelled : insn_text pool pc insn ≡ head_text w.wide w.op ++ arg_text form w.wide pc insn.arg index =
-    ap (λ (k : ℕ). head_text insn.wide insn.op ++ arg_text (form_of insn.op) insn.wide pc insn.arg k) index_same
-    ∙ ap (λ (f : Form). head_text insn.wide insn.op ++ arg_text f insn.wide pc insn.arg index) form_is
-    ∙ ap (λ (b : Bool). head_text b insn.op ++ arg_text form b pc insn.arg index) h.wide
-    ∙ ap (λ (op : ℕ). head_text w.wide op ++ arg_text form w.wide pc insn.arg index) h.op in
+    let spelled : insn_text pool pc insn ≡ head_text w.wide w.op ++ operand_text form w.wide pc insn.arg index =
+    ap (λ (k : ℕ). head_text insn.wide insn.op ++ operand_text (form_of insn.op) insn.wide pc insn.arg k) index_same
+    ∙ ap (λ (f : Form). head_text insn.wide insn.op ++ operand_text f insn.wide pc insn.arg index) form_is
+    ∙ ap (λ (b : Bool). head_text b insn.op ++ operand_text form b pc insn.arg index) h.wide
+    ∙ ap (λ (op : ℕ). head_text w.wide op ++ operand_text form w.wide pc insn.arg index) h.op in
     record {
       written = record { op = w.op; wide = w.wide; operands = a.operands };
       fits = subst (λ (f : Form). FitsArg f insn.wide pc insn.arg index) (sym form_is) (subst (λ (b : Bool). FitsArg form b pc insn.arg index) (sym h.wide) a.fits);
-      is_text = record { layout = t.layout; known = t.known; operands = arg_text form w.wide pc insn.arg index; spelled = spelled; laid = a.laid; allowed = a.allowed };
+      is_text = record { layout = t.layout; known = t.known; operands = operand_text form w.wide pc insn.arg index; spelled = spelled; laid = a.laid; allowed = a.allowed };
       size_is =
-          ap length spelled ∙ length-append (head_text w.wide w.op) (arg_text form w.wide pc insn.arg index)
+          ap length spelled ∙ length-append (head_text w.wide w.op) (operand_text form w.wide pc insn.arg index)
           ∙ ap (λ (n : ℕ). length (head_text w.wide w.op) + n) a.size_is
           ∙ sym (length-append (head_text w.wide w.op) t.operands) ∙ ap length (sym t.spelled);
       names = λ more others on. record { op = h.op; wide = h.wide; form = h.form; known = h.known; arg = a.names more others on; local = h.local };
@@ -92,8 +92,8 @@ starts_on (r ∷ rows) (n ∷ news) h q s = subst (λ (k : ℕ). IsSome (cond (e
 -- a code that is written over a pool, of the same instructions
 pub record IsCodeAgain (max_locals : ℕ) (all : List (ℕ × Insn)) (pool : List PoolItem) (pc end : ℕ) (insns : List (ℕ × Insn)) : Type 0 where
   pub news : List (ℕ × Written)
-  pub laid : Lays pc (code_text pool insns) news None
-  pub size_is : pc + length (code_text pool insns) ≡ end
+  pub laid : Lays pc (insns_text pool insns) news None
+  pub size_is : pc + length (insns_text pool insns) ≡ end
   pub same : AllZip SameStart insns news
   pub names : (more : List PoolItem) (others : List (ℕ × Written)) → StartsOf all others → AllZip (IsRow (pool ++ more) max_locals others) news insns
 
@@ -110,8 +110,8 @@ code_again max_locals all pool pc end (i ∷ insns) l each ready =
     let size = insn_size pc i.1 in
     let r = code_again max_locals all pool (pc + size) end insns l.1 each.1 ready.1 in
     let front = insn_text pool pc i.1 in
-    let behind = code_text pool insns in
-    let text : code_text pool (i ∷ insns) ≡ front ++ behind = ap (λ (p : ℕ). insn_text pool p i.1 ++ behind) here in
+    let behind = insns_text pool insns in
+    let text : insns_text pool (i ∷ insns) ≡ front ++ behind = ap (λ (p : ℕ). insn_text pool p i.1 ++ behind) here in
     let as_long : length front ≡ size = size_of_text pool pc i.1 ready.0.whole in
     let whole : length (front ++ behind) ≡ size + length behind = length-append front behind ∙ ap (λ (n : ℕ). n + length behind) as_long in
     let next : pc + size ≡ pc + (length (front ++ behind) - length behind) = steps pc size (length behind) (length (front ++ behind)) whole in
@@ -162,16 +162,16 @@ handlers_again pool size insns news on (r ∷ raws) (x ∷ xs) h k =
 
 -- the code decodes to the body, and is as long
 pub record IsBodyAgain (pool : List PoolItem) (body : Body) : Type 0 where
-  pub decodes : DecodesTo pool (code_text pool body.insns) body
-  pub size_is : length (code_text pool body.insns) ≡ body.length
+  pub decodes : DecodesTo pool (insns_text pool body.insns) body
+  pub size_is : length (insns_text pool body.insns) ≡ body.length
 
 pub body_again : (initial pool : List PoolItem) (body : Body) → MayEncode initial body → AllByRecursion (λ (row : ℕ × Insn). IsReady pool row.1) body.insns → IsBodyAgain pool body
 body_again initial pool body may ready =
     let a = code_again body.max_locals body.insns pool 0 body.length body.insns may.laid may.each ready in
     let on = starts_on body.insns a.news a.same in
-    let size : length (code_text pool body.insns) ≡ body.length = omega (arith, a.size_is) in
+    let size : length (insns_text pool body.insns) ≡ body.length = omega (arith, a.size_is) in
     record {
-      decodes = λ later handlers grows named. subst (λ (p : List PoolItem). Decodes p body.max_stack body.max_locals (code_text pool body.insns) handlers body) (sym grows.1) (record {
+      decodes = λ later handlers grows named. subst (λ (p : List PoolItem). Decodes p body.max_stack body.max_locals (insns_text pool body.insns) handlers body) (sym grows.1) (record {
         stack_is = refl;
         locals_is = refl;
         rows = a.news;

@@ -7,12 +7,12 @@ use Rattle.std.proofs.lemmas.Grind.{flat_map-append}
 use Rattle.jv_types.specs.declared.instruction.Insn.{Insn}
 use Rattle.jv_types.specs.declared.body.Body.{Body}
 use Rattle.jv_pool.specs.declared.item.PoolItem.{PoolItem}
-use Rattle.jv_pool.specs.Reading.{◌>>=◌}
-use Rattle.jv_pool.proofs.Fronts.{bind_is}
+use Rattle.jv_read.specs.Reading.{◌>>=◌}
+use Rattle.jv_read.proofs.Fronts.{bind_is}
 use Rattle.jv_insn.specs.Entries.{entry_of, put_named, put_all, Grows}
-use Rattle.jv_insn.specs.Encoding.{form_of, arg_text, index_in, insn_text, code_text, MayEncode}
+use Rattle.jv_insn.specs.Encoding.{form_of, operand_text, index_in, insn_text, insns_text, MayEncode}
 use Rattle.jv_insn.specs.Layouts.{head_text}
-use Rattle.jv_insn.specs.Writing.{MayPut}
+use Rattle.jv_insn.specs.Steps.Writing.{MayPut}
 use Rattle.jv_insn.proofs.Placed.{grows_on, arg_later, arg_put, index_is}
 use Rattle.jv_insn.proofs.Encoded.{IsReady, IsBodyAgain, body_again, each_may, near_later, near_index}
 
@@ -41,12 +41,12 @@ text_later : (old new : List PoolItem) (pc : ℕ) (insn : Insn) → Grows old ne
 text_later old new pc insn g r =
     let now = index_is old insn.arg r.index r.placed in
     let then = index_is new insn.arg r.index (arg_later old new (entry_of insn.arg) r.index g r.placed) in
-    ap (λ (k : ℕ). head_text insn.wide insn.op ++ arg_text (form_of insn.op) insn.wide pc insn.arg k) (then ∙ sym now)
+    ap (λ (k : ℕ). head_text insn.wide insn.op ++ operand_text (form_of insn.op) insn.wide pc insn.arg k) (then ∙ sym now)
 
-code_later : (old new : List PoolItem) (insns : List (ℕ × Insn)) → Grows old new → AllByRecursion (λ (row : ℕ × Insn). IsReady old row.1) insns → code_text new insns ≡ code_text old insns
+code_later : (old new : List PoolItem) (insns : List (ℕ × Insn)) → Grows old new → AllByRecursion (λ (row : ℕ × Insn). IsReady old row.1) insns → insns_text new insns ≡ insns_text old insns
 code_later old new [] g r = refl
 code_later old new (i ∷ insns) g r =
-    ap (λ (t : List ℕ). t ++ code_text new insns) (text_later old new i.0 i.1 g r.0) ∙ ap (λ (t : List ℕ). insn_text old i.0 i.1 ++ t) (code_later old new insns g r.1)
+    ap (λ (t : List ℕ). t ++ insns_text new insns) (text_later old new i.0 i.1 g r.0) ∙ ap (λ (t : List ℕ). insn_text old i.0 i.1 ++ t) (code_later old new insns g r.1)
 
 -- ---- the loop
 
@@ -55,7 +55,7 @@ pub record IsEncoded (initial now : List PoolItem) (insns : List (ℕ × Insn)) 
   pub grows : Grows initial now
   pub left : put_all insns initial ≡ put_all (drop i insns) now
   pub ready : AllByRecursion (λ (row : ℕ × Insn). IsReady now row.1) (take i insns)
-  pub text : written ≡ code_text now (take i insns)
+  pub text : written ≡ insns_text now (take i insns)
 
 pub encoded_begin : (initial : List PoolItem) (insns : List (ℕ × Insn)) (written : List ℕ) → written ≡ [] → IsEncoded initial initial insns 0 written
 encoded_begin initial insns written none = record { grows = ([], sym (append-nil initial)); left = refl; ready = tt; text = none }
@@ -84,7 +84,7 @@ encoded_more initial now new body i row written after may lt is so_far put small
     let one : IsReady new row.1 = record { index = index; small = small; whole = here.whole; placed = p.stands; near = near_index now new row.1 index p.grows here.near p.stands } in
     let before = all_on (λ (r : ℕ × Insn). IsReady now r.1) (λ (r : ℕ × Insn). IsReady new r.1) (take i insns) (λ r h. ready_later now new r.1 p.grows h) so_far.ready in
     let taken = one_more insns i row lt is in
-    let last : code_text new (row ∷ []) ≡ insn_text new row.0 row.1 = append-nil (insn_text new row.0 row.1) in
+    let last : insns_text new (row ∷ []) ≡ insn_text new row.0 row.1 = append-nil (insn_text new row.0 row.1) in
     record {
       grows = grows_on initial now new so_far.grows p.grows;
       left =
@@ -93,9 +93,9 @@ encoded_more initial now new body i row written after may lt is so_far put small
       ready = subst (AllByRecursion (λ (r : ℕ × Insn). IsReady new r.1)) (sym taken) (all_push (λ (r : ℕ × Insn). IsReady new r.1) (take i insns) row before one);
       text =
           text ∙ ap (λ (t : List ℕ). t ++ insn_text new row.0 row.1) (so_far.text ∙ sym (code_later now new (take i insns) p.grows so_far.ready))
-          ∙ ap (λ (t : List ℕ). code_text new (take i insns) ++ t) (sym last)
+          ∙ ap (λ (t : List ℕ). insns_text new (take i insns) ++ t) (sym last)
           ∙ sym (flat_map-append (λ (r : ℕ × Insn). insn_text new r.0 r.1) (take i insns) (row ∷ []))
-          ∙ ap (code_text new) (sym taken);
+          ∙ ap (insns_text new) (sym taken);
     }
 
 -- an instruction whose item finds no room
@@ -109,7 +109,7 @@ encoded_full initial now insns i row written lt is so_far none =
 -- all instructions are written
 pub record IsWhole (initial now : List PoolItem) (body : Body) (written : List ℕ) : Type 0 where
   pub added : put_all body.insns initial ≡ Some now
-  pub text : written ≡ code_text now body.insns
+  pub text : written ≡ insns_text now body.insns
   pub again : IsBodyAgain now body
 
 pub encoded_whole : (initial now : List PoolItem) (body : Body) (i : ℕ) (written : List ℕ) → MayEncode initial body → length body.insns ≤ i → IsEncoded initial now body.insns i written → IsWhole initial now body written
@@ -118,7 +118,7 @@ encoded_whole initial now body i written may le so_far =
     let all = take_all i body.insns le in
     record {
       added = so_far.left ∙ ap (λ (rows : List (ℕ × Insn)). put_all rows now) (drop_all i body.insns le);
-      text = so_far.text ∙ ap (code_text now) all;
+      text = so_far.text ∙ ap (insns_text now) all;
       again = body_again initial now body may (subst (AllByRecursion (λ (r : ℕ × Insn). IsReady now r.1)) all so_far.ready);
     }
 

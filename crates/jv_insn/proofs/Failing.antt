@@ -5,7 +5,7 @@ use Rattle.jv_pool.specs.declared.item.PoolItem.{PoolItem}
 use Rattle.jv_insn.specs.declared.written.Written.{Written}
 use Rattle.jv_insn.specs.Layouts.{Lays}
 use Rattle.jv_insn.specs.Decoding.{Decodes, FailsInsn, FailsHandler, FailsAt, IsLeastFailure}
-use Rattle.jv_insn.specs.Rows.{IsFirst, IsFirstOf, lesser}
+use Rattle.jv_insn.specs.Steps.Rows.{IsFirst, IsFirstOf, lesser}
 use Rattle.jv_insn.proofs.Firsts.{first_right, first_of_right, first_lesser, first_either, first_given}
 use Rattle.jv_types.specs.declared.body.Body.{Body}
 use Rattle.jv_insn.proofs.Laying.{lays_agree, lays_rise}

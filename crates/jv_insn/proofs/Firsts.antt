@@ -1,8 +1,8 @@
 -- Least numbers with a property, and one of several properties.
 use Rattle.std.proofs.Common.{◌≡◌, ℕ, ◌+◌, ◌<◌, ◌≤◌, min, Option, Some, None, refl, subst, ◌⊎◌, inl, inr, arith}
 use Rattle.std.proofs.lemmas.Bool.{cases_lt}
-use Rattle.jv_pool.proofs.Fronts.{some_is}
-use Rattle.jv_insn.specs.Rows.{IsFirst, IsFirstOf, lesser}
+use Rattle.jv_read.proofs.Fronts.{some_is}
+use Rattle.jv_insn.specs.Steps.Rows.{IsFirst, IsFirstOf, lesser}
 
 module _ (P Q : ℕ → Type 0) where
   -- where nothing has the first property, the least with the second is the least with one of them

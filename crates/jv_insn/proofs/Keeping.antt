@@ -24,7 +24,7 @@ use Rattle.jv_desc.proofs.Agreement.{one_method}
 use Rattle.jv_pool.specs.declared.item.PoolItem.{PoolItem}
 use Rattle.jv_pool.specs.declared.item.PoolItem.TheVariants as items
 use Rattle.jv_pool.specs.Lookups.{item_at, names, is_utf8, text_at, name_and_type_in, name_and_type_at}
-use Rattle.jv_pool.proofs.Fronts.{some_is}
+use Rattle.jv_read.proofs.Fronts.{some_is}
 use Rattle.jv_names.specs.Spellings.{IsFieldName, IsFieldDescriptor, IsCalledName, IsMethodDescriptor}
 use Rattle.jv_names.specs.PoolNames.{HasText, HasNames, IsNamedItem, IsNamedPool}
 use Rattle.jv_insn.specs.declared.written.Operands.{Operands}
@@ -32,7 +32,8 @@ use Rattle.jv_insn.specs.declared.written.Written.{Written}
 use Rattle.jv_insn.specs.Effects.{op_row}
 use Rattle.jv_insn.specs.Forms.{HasOperands, HasRowOperands, HasOwnOperands}
 use Rattle.jv_insn.specs.Layouts.{Layout, layout_of, wide_layout_of, AreOperands, is_allowed}
-use Rattle.jv_insn.specs.Meanings.{IsTypeText, NamesType, texts_of, texts_at, field_in, method_in, NamesField, NamesMethod, NamesConst, NamesOperands}
+use Rattle.jv_names.specs.Naming.{IsTypeText, NamesType, texts_of, texts_at, field_in, method_in, NamesField, NamesMethod}
+use Rattle.jv_insn.specs.Meanings.{NamesConst, NamesOperands}
 use Rattle.jv_insn.specs.Decoding.{Decodes}
 use Rattle.jv_insn.specs.Encoding.{form_of}
 use Rattle.jv_insn.specs.Kept.{KeepsField, KeepsMethod, KeepsConst, KeepsArg, KeepsForm}

@@ -3,11 +3,11 @@ use Rattle.std.proofs.Common.{◌≡◌, ℕ, ◌+◌, ◌-◌, ◌<◌, ◌≤�
 use Rattle.std.proofs.lemmas.List.{append-nil}
 use Rattle.std.proofs.lemmas.Bool.Decides.{nat_tests}
 use Rattle.jv_types.specs.Bodies.{IsStart, rises_from, at_offset}
-use Rattle.jv_pool.proofs.Fronts.{some_is}
+use Rattle.jv_read.proofs.Fronts.{some_is}
 use Rattle.jv_insn.specs.declared.written.Written.{Written}
 use Rattle.jv_insn.specs.Layouts.{head_text, BeginsWithInsn, NoInsn, Ends, AtEnd, BreaksOff, Lays}
-use Rattle.jv_insn.specs.Reading.{written_at}
-use Rattle.jv_insn.specs.Rows.{AreRows}
+use Rattle.jv_insn.specs.Steps.Reading.{written_at}
+use Rattle.jv_insn.specs.Steps.Rows.{AreRows}
 use Rattle.jv_insn.proofs.SpelledInsns.{written_takes, written_again}
 
 -- an instruction has a byte or more

@@ -11,10 +11,7 @@ pub mod Keeping
 pub mod Laying
 pub mod Leaving
 pub mod Leading
-pub mod Many
 pub mod Named
-pub mod Naming
-pub mod Numbers
 pub mod OfLayout
 pub mod OneBody
 pub mod OneEach
@@ -29,3 +26,4 @@ pub mod SpelledInsns
 pub mod SpelledSwitches
 pub mod Standing
 pub mod Tables
+pub mod Widths

@@ -12,14 +12,16 @@ use Rattle.jv_pool.specs.declared.item.PoolItem.{PoolItem}
 use Rattle.jv_pool.specs.declared.item.PoolItem.TheVariants as items
 use Rattle.jv_pool.specs.Lookups.{item_at, names, is_utf8, text_at, class_name_in, class_name_at, name_and_type_in, name_and_type_at}
 use Rattle.jv_pool.specs.Adding.{place_of}
-use Rattle.jv_pool.specs.Reading.{◌>>=◌}
+use Rattle.jv_read.specs.Reading.{◌>>=◌}
 use Rattle.jv_pool.proofs.AddingLaws.{place_found}
-use Rattle.jv_pool.proofs.Fronts.{bind_some}
+use Rattle.jv_read.proofs.Fronts.{bind_some}
+use Rattle.jv_names.proofs.NamedOnce.{one_text}
 use Rattle.jv_insn.specs.declared.entries.MemberKind.{MemberKind}
 use Rattle.jv_insn.specs.declared.entries.MemberKind.TheVariants as kinds
-use Rattle.jv_insn.specs.Entries.{type_text, member_item, method_kind, const_entry, class_place, pair_place, member_place, arg_place}
+use Rattle.jv_names.specs.Naming.{type_text, IsTypeText, NamesType, texts_of, texts_at, field_in, method_in, NamesField, NamesMethod}
+use Rattle.jv_insn.specs.Entries.{member_item, method_kind, const_entry, class_place, pair_place, member_place, arg_place}
 use Rattle.jv_insn.specs.Encoding.{is_left_out}
-use Rattle.jv_insn.specs.Meanings.{IsTypeText, NamesType, texts_of, texts_at, field_in, method_in, NamesField, NamesMethod, NamesConst}
+use Rattle.jv_insn.specs.Meanings.{NamesConst}
 
 -- ---- texts, classes and pairs
 
@@ -46,12 +48,6 @@ pair_named pool name desc i e =
     ap (option_and_then (texts_of pool)) pair ∙ rw (first.0, second.0) refl
 
 -- ---- types
-
--- a type has one text
-one_text : (text : List ℕ) (type : RefType) → IsTypeText text type → text ≡ type_text type
-one_text text (Class name) h = h.0
-one_text text (PrimArray prim) h = h.spelled
-one_text text (Array' shape all) h = h.spelled
 
 -- a type that is named somewhere is named at its place
 pub type_named : (pool : List PoolItem) (i : ℕ) (type : RefType) (old : List PoolItem) (k : ℕ) → NamesType old k type → class_place pool (type_text type) ≡ Some i → NamesType pool i type

@@ -21,7 +21,7 @@ use Rattle.jv_insn.specs.Forms.{HasOperands, HasRowOperands, HasOwnOperands}
 use Rattle.jv_insn.specs.Layouts.{Layout, Alone, One, Two, Three, TableSwitch, LookupSwitch, s1, s2, s4, layout_of, wide_layout_of, AreOperands, is_allowed}
 use Rattle.jv_insn.specs.Meanings.{NamesOperands}
 use Rattle.jv_insn.specs.Decoding.{Decodes}
-use Rattle.jv_pool.proofs.Fronts.{some_is}
+use Rattle.jv_read.proofs.Fronts.{some_is}
 use Rattle.jv_insn.proofs.Rewriting.{layout_by, layout_row}
 use Rattle.jv_insn.proofs.Encoded.{IsSpelledOver, spelled_insns}
 

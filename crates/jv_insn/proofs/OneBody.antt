@@ -29,9 +29,10 @@ use Rattle.jv_insn.specs.declared.written.Operands.{Operands}
 use Rattle.jv_insn.specs.declared.written.Operands.TheVariants.{Nothing, Local, Small, Inc, Index, Called, Site, NewPrim, Multi, Jump, Table, Lookup}
 use Rattle.jv_insn.specs.declared.written.Written.{Written}
 use Rattle.jv_insn.specs.Effects.{op_row}
-use Rattle.jv_insn.specs.Meanings.{NamesType, NamesConst, NamesLoad, NamesArg, NamesOperands, LeadsTo, LeadsCase, IsInsn}
+use Rattle.jv_names.specs.Naming.{NamesType}
+use Rattle.jv_insn.specs.Meanings.{NamesConst, NamesLoad, NamesArg, NamesOperands, LeadsTo, LeadsCase, IsInsn}
 use Rattle.jv_insn.specs.Decoding.{IsRow, Catches, IsHandler, Decodes}
-use Rattle.jv_insn.proofs.Naming.{given_twice, one_type, one_class, one_field_ref, one_method_ref}
+use Rattle.jv_names.proofs.NamedOnce.{given_twice, one_type, one_class, one_field_ref, one_method_ref}
 use Rattle.jv_insn.proofs.Leading.{one_target, one_case, zip_one}
 use Rattle.jv_insn.proofs.Laying.{lays_agree}
 

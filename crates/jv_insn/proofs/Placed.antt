@@ -10,12 +10,13 @@ use Rattle.jv_pool.specs.declared.item.PoolItem.{PoolItem}
 use Rattle.jv_pool.specs.declared.item.PoolItem.TheVariants as items
 use Rattle.jv_pool.specs.PoolText.{is_hole}
 use Rattle.jv_pool.specs.Adding.{slots_of, is_same, place_of}
-use Rattle.jv_pool.specs.Reading.{◌>>=◌}
+use Rattle.jv_read.specs.Reading.{◌>>=◌}
 use Rattle.jv_pool.proofs.AddingLaws.{new_first}
-use Rattle.jv_pool.proofs.Fronts.{bind_some, bind_is, past_true, given_as}
+use Rattle.jv_read.proofs.Fronts.{bind_some, bind_is, past_true, given_as}
 use Rattle.jv_insn.specs.declared.entries.MemberKind.{MemberKind}
 use Rattle.jv_insn.specs.declared.entries.MemberKind.TheVariants as kinds
-use Rattle.jv_insn.specs.Entries.{Entry, Plain, ClassOf, MemberOf, type_text, member_item, method_kind, entry_of, class_place, pair_place, member_place, arg_place, put_item, put_class, put_pair, put_member, put_named, Grows}
+use Rattle.jv_insn.specs.Entries.{Entry, Plain, ClassOf, MemberOf, member_item, method_kind, entry_of, class_place, pair_place, member_place, arg_place, put_item, put_class, put_pair, put_member, put_named, Grows}
+use Rattle.jv_names.specs.Naming.{type_text}
 use Rattle.jv_insn.specs.Encoding.{index_in}
 use Rattle.jv_insn.proofs.Placing.{place_by, put_found, put_behind}
 

@@ -11,34 +11,27 @@ use Rattle.jv_types.specs.declared.instruction.Const.{Const}
 use Rattle.jv_desc.specs.Texts.{ref_dims, IsFieldText}
 use Rattle.jv_desc.proofs.Agreement.{one_field}
 use Rattle.jv_pool.specs.declared.item.PoolItem.{PoolItem}
-use Rattle.jv_insn.specs.declared.fault.Fault.{Fault}
-use Rattle.jv_insn.specs.declared.fault.Fault.TheVariants as faults
-use Rattle.jv_insn.specs.Finding.{NoneFor}
+use Rattle.jv_read.specs.declared.fault.ReadFault.{ReadFault}
+use Rattle.jv_read.specs.declared.fault.ReadFault.TheVariants as faults
+use Rattle.jv_names.specs.Finding.{NoneFor}
 use Rattle.jv_insn.specs.Forms.{is_category_2}
-use Rattle.jv_insn.specs.Meanings.{NamesType, NamesMethod, NamesConst, FitsOp, MayCall, IsCalled, NamesArg, NamesCalled, NamesMulti, NamesOperands, IsInsn, has_local}
+use Rattle.jv_names.specs.Naming.{NamesType, NamesMethod}
+use Rattle.jv_insn.specs.Meanings.{NamesConst, FitsOp, MayCall, IsCalled, NamesArg, NamesCalled, NamesMulti, NamesOperands, IsInsn, has_local}
 use Rattle.jv_table.specs.CodeRows.{OpForm}
 use Rattle.jv_types.specs.declared.instruction.Insn.{Insn}
 use Rattle.jv_insn.specs.declared.written.Written.{Written}
 use Rattle.jv_insn.specs.Effects.{op_row, local_of}
 use Rattle.jv_insn.proofs.Args.{one_local}
-use Rattle.jv_insn.proofs.Naming.{given_twice, one_type, one_method_ref, one_width}
-
--- where there would be one of these, there would be one of those
-pub none_for : {X Y : Type 0} (P : X → Type 0) (Q : Y → Type 0) (e : Fault) → ((y : Y) → Q y → (x : X) × P x) → NoneFor P e → NoneFor Q e
-none_for P Q faults.Bad f none = λ y q. let p = f y q in none p.0 p.1
-none_for P Q faults.Memory f none = tt
+use Rattle.jv_names.proofs.NamedOnce.{given_twice, one_type, one_method_ref}
+use Rattle.jv_insn.proofs.Widths.{one_width}
 
 -- what a fault says that isn't memory's
-pub bad_means : {X : Type 0} (P : X → Type 0) (e : Fault) → e ≡ faults.Bad → NoneFor P e → (x : X) → P x → ⊥
-bad_means P e is none = subst (λ (f : Fault). NoneFor P f) is none
+pub bad_means : {X : Type 0} (P : X → Type 0) (e : ReadFault) → e ≡ faults.Bad → NoneFor P e → (x : X) → P x → ⊥
+bad_means P e is none = subst (λ (f : ReadFault). NoneFor P f) is none
 
 -- a test that fails
 pub refuted : {P : Type 0} (b : Bool) → (IsTrue b ↔ P) → b ≡ false → P → ⊥
 refuted b h e p = let t : b ≡ true = h.1 p in absurd cc
-
--- a descriptor of a primitive type is none of an array
-pub prim_is_no_ref : (text : List ℕ) (prim : PrimType) (type : RefType) → IsFieldText text (descs.Prim prim) → IsFieldText text (descs.Ref type) → ⊥
-prim_is_no_ref text prim type h k = let same = one_field text (descs.Prim prim) (descs.Ref type) h k in absurd cc
 
 pub class_refused : (pool : List PoolItem) (op index : ℕ) (of : RefType) → NamesType pool index of → (FitsOp op of → ⊥) → (x : Arg) → NamesArg forms.Class pool op index x → ⊥
 class_refused pool op index of names unfit x h = unfit (subst (λ (t : RefType). FitsOp op t) (one_type pool index h.0 of h.2 names) h.3)

@@ -16,7 +16,7 @@ use Rattle.jv_types.specs.declared.instruction.Arg.{Arg}
 use Rattle.jv_types.specs.declared.instruction.Arg.TheVariants as args
 use Rattle.jv_desc.specs.Texts.{words_of}
 use Rattle.jv_pool.specs.declared.item.PoolItem.{PoolItem}
-use Rattle.jv_pool.proofs.Fronts.{given_as}
+use Rattle.jv_read.proofs.Fronts.{given_as}
 use Rattle.jv_insn.specs.declared.written.Operands.{Operands}
 use Rattle.jv_insn.specs.declared.written.Operands.TheVariants.{Nothing, Local, Small, Inc, Index, Called, Site, NewPrim, Multi, Jump, Table, Lookup}
 use Rattle.jv_insn.specs.declared.written.Written.{Written}
@@ -24,8 +24,8 @@ use Rattle.jv_insn.specs.Effects.{op_row}
 use Rattle.jv_insn.specs.Layouts.{Layout, Alone, One, Two, Three, TableSwitch, LookupSwitch, s1, s2, s4, s4_text, pair_text, padding_at, span, layout_of, wide_layout_of, layout_for, IsOne, AreTwo, AreThree, IsTable, IsLookup, AreOperands, is_allowed}
 use Rattle.jv_insn.specs.Meanings.{LeadsTo, LeadsCase, NamesOperands}
 use Rattle.jv_insn.specs.Entries.{entry_of, arg_place}
-use Rattle.jv_insn.specs.Encoding.{branch_offset, padding_text, case_text, table_text, lookup_text, arg_text, is_left_out, atype_of}
-use Rattle.jv_insn.specs.Writing.{FitsArg}
+use Rattle.jv_insn.specs.Encoding.{branch_offset, padding_text, case_text, table_text, lookup_text, operand_text, is_left_out, atype_of}
+use Rattle.jv_insn.specs.Steps.Writing.{FitsArg}
 use Rattle.jv_insn.proofs.Placed.{arg_stays}
 use Rattle.jv_insn.proofs.Named.{type_named, field_named, method_named, const_named}
 use Rattle.jv_insn.proofs.Tables.{one_code}
@@ -51,8 +51,8 @@ Starts rows others = (q : ℕ) → IsStart rows q → IsStart others q
 pub record IsAgain (rows : List (ℕ × Written)) (pool : List PoolItem) (index pc op size : ℕ) (form : Form) (wide : Bool) (layout : Layout) (arg : Arg) : Type 0 where
   pub operands : Operands
   pub fits : FitsArg form wide pc arg index
-  pub size_is : length (arg_text form wide pc arg index) ≡ size
-  pub laid : AreOperands layout (pc + 1) (arg_text form wide pc arg index) operands
+  pub size_is : length (operand_text form wide pc arg index) ≡ size
+  pub laid : AreOperands layout (pc + 1) (operand_text form wide pc arg index) operands
   pub allowed : is_allowed operands ≡ true
   pub names : (more : List PoolItem) (others : List (ℕ × Written)) → Starts rows others → NamesOperands (pool ++ more) others pc op form operands arg
 

@@ -13,8 +13,8 @@ use Rattle.jv_pool.specs.declared.item.PoolItem.{PoolItem}
 use Rattle.jv_insn.specs.declared.written.Written.{Written}
 use Rattle.jv_insn.specs.Meanings.{IsInsn}
 use Rattle.jv_insn.specs.Decoding.{IsRow, IsHandler, FailsInsn, FailsHandler}
-use Rattle.jv_insn.specs.Rows.{AreRows, IsFirst, HandlersSoFar, lesser}
-use Rattle.jv_pool.proofs.Fronts.{some_is}
+use Rattle.jv_insn.specs.Steps.Rows.{AreRows, IsFirst, HandlersSoFar, lesser}
+use Rattle.jv_read.proofs.Fronts.{some_is}
 
 -- one pair more
 pub zip_push : {A B : Type 0} (R : A → B → Type 0) (xs : List A) (ys : List B) (x : A) (y : B) → AllZip R xs ys → R x y → AllZip R (xs ++ x ∷ []) (ys ++ y ∷ [])

@@ -7,11 +7,11 @@ use Rattle.std.proofs.lemmas.Int.{of_z-to_z, to_z-of_z}
 use mir.ValLaws.{of_z_fits}
 use borrow.Author.Gap.{read_sfits}
 use Rattle.jv_bytes.specs.Numbers.{number_text}
-use Rattle.jv_pool.specs.Reading.{◌>>=◌, number_at}
-use Rattle.jv_pool.proofs.Fronts.{bind_some, bind_is, given_as, joined, past_true, number_takes, number_again}
+use Rattle.jv_read.specs.Reading.{◌>>=◌, number_at}
+use Rattle.jv_read.proofs.Fronts.{bind_some, bind_is, given_as, joined, past_true, number_takes, number_again}
 use Rattle.jv_insn.specs.declared.written.Operands.{Operands}
 use Rattle.jv_insn.specs.Layouts.{s4, s4_text, pair_text, IsPair, span, IsOne, AreTwo, AreThree}
-use Rattle.jv_insn.specs.Reading.{one_at, two_at, three_at, s4_at, pair_at, span_of, count_at}
+use Rattle.jv_insn.specs.Steps.Reading.{one_at, two_at, three_at, s4_at, pair_at, span_of, count_at}
 
 -- operands stand in front of what is left
 pub record Takes (P : List ℕ → Operands → Type 0) (bytes : List ℕ) (x : Operands × List ℕ) : Type 0 where

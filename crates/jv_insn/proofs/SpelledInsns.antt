@@ -5,14 +5,14 @@ use Rattle.std.proofs.lemmas.Bool.{eqb-true}
 use Rattle.jv_table.specs.CodeRows.{OpForm, opcode_rows}
 use Rattle.jv_table.specs.declared.code_tables.Form.{Form}
 use Rattle.jv_table.specs.declared.code_tables.Form.TheVariants as forms
-use Rattle.jv_pool.specs.Reading.{◌>>=◌, u1_at}
-use Rattle.jv_pool.proofs.Fronts.{bind_some, bind_is, given_as, some_is, past_true, u1_takes, u1_again}
+use Rattle.jv_read.specs.Reading.{◌>>=◌, u1_at}
+use Rattle.jv_read.proofs.Fronts.{bind_some, bind_is, given_as, some_is, past_true, u1_takes, u1_again}
 use Rattle.jv_insn.specs.declared.written.Operands.{Operands}
 use Rattle.jv_insn.specs.declared.written.Operands.TheVariants.{Nothing, Local, Inc}
 use Rattle.jv_insn.specs.declared.written.Written.{Written}
 use Rattle.jv_insn.specs.Effects.{op_row}
 use Rattle.jv_insn.specs.Layouts.{Layout, Alone, One, Two, Three, TableSwitch, LookupSwitch, s2, layout_of, wide_layout_of, layout_for, AreOperands, is_allowed, wide_op, head_text, BeginsWithInsn}
-use Rattle.jv_insn.specs.Reading.{operands_at, laid_at, insn_of, plain_at, wide_at, written_at}
+use Rattle.jv_insn.specs.Steps.Reading.{operands_at, laid_at, insn_of, plain_at, wide_at, written_at}
 use Rattle.jv_insn.proofs.Spelled.{Takes, one_takes, one_again, two_take, two_again, three_take, three_again}
 use Rattle.jv_insn.proofs.SpelledSwitches.{table_takes, table_again, lookup_takes, lookup_again}
 

@@ -4,14 +4,13 @@ use Rattle.std.specs.Prelude.{FitsSigned}
 use Rattle.std.specs.Int.{w32}
 use Rattle.std.specs.List.{flat_map}
 use Rattle.jv_bytes.specs.Numbers.{number_text}
-use Rattle.jv_pool.specs.Reading.{◌>>=◌, bytes_at}
-use Rattle.jv_pool.proofs.Fronts.{bind_some, bind_is, given_as, joined, bytes_take, bytes_again}
-use Rattle.jv_insn.specs.Reading.{many_at}
-use Rattle.jv_insn.proofs.Many.{many_take, many_again}
+use Rattle.jv_read.specs.Reading.{◌>>=◌, bytes_at, many_at}
+use Rattle.jv_read.proofs.Fronts.{bind_some, bind_is, given_as, joined, bytes_take, bytes_again}
+use Rattle.jv_read.proofs.Many.{many_take, many_again}
 use Rattle.jv_insn.specs.declared.written.Operands.{Operands}
 use Rattle.jv_insn.specs.declared.written.Operands.TheVariants.{Table, Lookup}
 use Rattle.jv_insn.specs.Layouts.{s4_text, pair_text, IsPair, padding_at, IsTable, IsLookup}
-use Rattle.jv_insn.specs.Reading.{s4_at, pair_at, span_of, count_at, table_at, lookup_at}
+use Rattle.jv_insn.specs.Steps.Reading.{s4_at, pair_at, span_of, count_at, table_at, lookup_at}
 use Rattle.jv_insn.proofs.Spelled.{Takes, s4_takes, s4_again, pair_takes, pair_again, span_takes, span_again, count_takes, count_again}
 
 -- ---- a tableswitch

@@ -33,8 +33,8 @@ use Rattle.jv_insn.specs.declared.written.Written.{Written}
 use Rattle.jv_insn.specs.Effects.{op_row}
 use Rattle.jv_insn.specs.Forms.{is_category_2}
 use Rattle.jv_insn.specs.Layouts.{Layout, Alone, One, Two, Three, s1, s2, s4, layout_of, wide_layout_of, layout_for, AreOperands, is_allowed, head_text, IsInsnText}
-use Rattle.jv_insn.specs.Meanings.{method_in, IsTypeText, NamesType, NamesField, NamesMethod, NamesConst, LeadsTo, NamesOperands, IsInsn}
-use Rattle.jv_insn.specs.Entries.{type_text}
+use Rattle.jv_names.specs.Naming.{method_in, IsTypeText, NamesType, NamesField, NamesMethod, type_text}
+use Rattle.jv_insn.specs.Meanings.{NamesConst, LeadsTo, NamesOperands, IsInsn}
 use Rattle.jv_insn.specs.Encoding.{branch_offset, atype_of, MayStand}
 use Rattle.jv_insn.specs.Building.{IsFormedConst, IsFormedMethod, FitsForm, FitsWide, FitsUnder, FitsCode}
 

@@ -15,7 +15,7 @@ use Rattle.jv_table.specs.declared.code_tables.Form.TheVariants as forms
 use Rattle.jv_types.specs.declared.desc.PrimType.{PrimType}
 use Rattle.jv_types.specs.declared.desc.PrimType.TheVariants.{Boolean, Char, Float, Double, Byte, Short, Int, Long}
 use Rattle.jv_desc.specs.Texts.{prim_letter}
-use Rattle.jv_pool.proofs.Fronts.{some_is}
+use Rattle.jv_read.proofs.Fronts.{some_is}
 use Rattle.jv_types.specs.declared.instruction.Arg.{Arg}
 use Rattle.jv_types.specs.declared.instruction.Arg.TheVariants as args
 use Rattle.jv_insn.specs.Effects.{Shuffle, op_row, row_takes, row_gives, cells_taken, cells_given, decides_cells, shuffle_of}

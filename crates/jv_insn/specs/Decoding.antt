@@ -11,7 +11,8 @@ use Rattle.jv_insn.specs.declared.fault.BadCode.{BadCode}
 use Rattle.jv_insn.specs.declared.fault.BadCode.TheVariants as bad
 use Rattle.jv_insn.specs.declared.written.Written.{Written}
 use Rattle.jv_insn.specs.Layouts.{Lays}
-use Rattle.jv_insn.specs.Meanings.{NamesClass, IsInsn}
+use Rattle.jv_names.specs.Naming.{NamesClass}
+use Rattle.jv_insn.specs.Meanings.{IsInsn}
 
 -- a row of a code is an instruction, with its offset
 pub record IsRow (pool : List PoolItem) (max_locals : ℕ) (rows : List (ℕ × Written)) (row : ℕ × Written) (insn : ℕ × Insn) : Type 0 where

@@ -97,21 +97,21 @@ lookup_text pc default cases = padding_text pc ++ (s4_text (branch_offset pc def
 -- the operands of an instruction of a form, under wide or not, at an offset of the code, where what they name
 -- stands at an index of the pool. Those of a call site that is linked at run time are left out of bodies, and
 -- have no text here.
-abbrev pub arg_text : Form → Bool → ℕ → Arg → ℕ → List ℕ
-arg_text form wide pc (args.Local local) index = small_text (is_narrow form wide) local
-arg_text form wide pc (args.Small value) index = signed_text (is_narrow form wide) value
-arg_text form wide pc (args.Inc local by) index = small_text (is_narrow form wide) local ++ signed_text (is_narrow form wide) by
-arg_text form wide pc (args.Constant constant) index = small_text (is_narrow form wide) index
-arg_text form wide pc (args.Class type) index = number_text 2 index
-arg_text form wide pc (args.Field field) index = number_text 2 index
-arg_text form wide pc (args.Method method) index = number_text 2 index ++ behind_method form method
-arg_text form wide pc (args.NewPrim prim) index = number_text 1 (atype_of prim)
-arg_text form wide pc (args.Multi type dims) index = number_text 2 index ++ number_text 1 dims
-arg_text form wide pc (args.Jump target) index = jump_text form (branch_offset pc target)
-arg_text form wide pc (args.Table default low targets) index = table_text pc default low targets
-arg_text form wide pc (args.Lookup default cases) index = lookup_text pc default cases
-arg_text form wide pc args.Nothing index = []
-arg_text form wide pc args.Dynamic index = []
+abbrev pub operand_text : Form → Bool → ℕ → Arg → ℕ → List ℕ
+operand_text form wide pc (args.Local local) index = small_text (is_narrow form wide) local
+operand_text form wide pc (args.Small value) index = signed_text (is_narrow form wide) value
+operand_text form wide pc (args.Inc local by) index = small_text (is_narrow form wide) local ++ signed_text (is_narrow form wide) by
+operand_text form wide pc (args.Constant constant) index = small_text (is_narrow form wide) index
+operand_text form wide pc (args.Class type) index = number_text 2 index
+operand_text form wide pc (args.Field field) index = number_text 2 index
+operand_text form wide pc (args.Method method) index = number_text 2 index ++ behind_method form method
+operand_text form wide pc (args.NewPrim prim) index = number_text 1 (atype_of prim)
+operand_text form wide pc (args.Multi type dims) index = number_text 2 index ++ number_text 1 dims
+operand_text form wide pc (args.Jump target) index = jump_text form (branch_offset pc target)
+operand_text form wide pc (args.Table default low targets) index = table_text pc default low targets
+operand_text form wide pc (args.Lookup default cases) index = lookup_text pc default cases
+operand_text form wide pc args.Nothing index = []
+operand_text form wide pc args.Dynamic index = []
 
 -- ---- the text of a code
 
@@ -121,11 +121,11 @@ index_in pool arg = unwrap_or (arg_place pool (entry_of arg)) 0
 
 -- an instruction at its offset, over a pool where what it names stands
 abbrev pub insn_text : List PoolItem → ℕ → Insn → List ℕ
-insn_text pool pc insn = head_text insn.wide insn.op ++ arg_text (form_of insn.op) insn.wide pc insn.arg (index_in pool insn.arg)
+insn_text pool pc insn = head_text insn.wide insn.op ++ operand_text (form_of insn.op) insn.wide pc insn.arg (index_in pool insn.arg)
 
 -- the code of instructions, one behind the other, over a pool where all stands that they name
-abbrev pub code_text : List PoolItem → List (ℕ × Insn) → List ℕ
-code_text pool insns = flat_map (λ (row : ℕ × Insn). insn_text pool row.0 row.1) insns
+abbrev pub insns_text : List PoolItem → List (ℕ × Insn) → List ℕ
+insns_text pool insns = flat_map (λ (row : ℕ × Insn). insn_text pool row.0 row.1) insns
 
 -- ---- how long it is
 

@@ -1,17 +1,17 @@
 -- What instructions name of a constant pool, where that stands there, and the pool to which it is added.
 use Rattle.std.specs.Prelude.{◌≡◌, ◌+◌, ℕ, Bool, if◌then◌else◌, nat_le, List, [], ◌∷◌, ◌++◌, length, Option, Some, None}
 use Rattle.std.specs.Option.{option_map_or}
-use Rattle.jv_types.specs.declared.desc.RefType.{RefType, Class, PrimArray, Array'}
 use Rattle.jv_types.specs.declared.instruction.Const.{Const}
 use Rattle.jv_types.specs.declared.instruction.Const.TheVariants as consts
 use Rattle.jv_types.specs.declared.instruction.Arg.{Arg}
 use Rattle.jv_types.specs.declared.instruction.Arg.TheVariants as args
 use Rattle.jv_types.specs.declared.instruction.Insn.{Insn}
-use Rattle.jv_desc.specs.Texts.{ref_text, desc_text, method_text}
+use Rattle.jv_desc.specs.Texts.{desc_text, method_text}
 use Rattle.jv_pool.specs.declared.item.PoolItem.{PoolItem}
 use Rattle.jv_pool.specs.declared.item.PoolItem.TheVariants as items
 use Rattle.jv_pool.specs.Adding.{slots_of, place_of}
-use Rattle.jv_pool.specs.Reading.{◌>>=◌}
+use Rattle.jv_read.specs.Reading.{◌>>=◌}
+use Rattle.jv_names.specs.Naming.{type_text}
 use Rattle.jv_insn.specs.declared.entries.MemberKind.{MemberKind}
 use Rattle.jv_insn.specs.declared.entries.MemberKind.TheVariants as kinds
 
@@ -23,12 +23,6 @@ pub data Entry : Type 0 where
   Plain : PoolItem → Entry
   ClassOf : List ℕ → Entry
   MemberOf : MemberKind → List ℕ → List ℕ → List ℕ → Entry
-
--- the text that names a class or array type: a class's name, and an array's descriptor (JVMS 4.4.1)
-abbrev pub type_text : RefType → List ℕ
-type_text (Class name) = name
-type_text (PrimArray prim) = ref_text (PrimArray prim)
-type_text (Array' shape all) = ref_text (Array' shape all)
 
 -- the item of a member, by the indices of its class and of its name and descriptor (JVMS 4.4.2)
 abbrev pub member_item : MemberKind → ℕ → ℕ → PoolItem

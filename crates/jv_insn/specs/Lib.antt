@@ -1,10 +1,8 @@
-pub mod Borrowed
 pub mod Building
 pub mod Decoding
 pub mod Effects
 pub mod Encoding
 pub mod Entries
-pub mod Finding
 pub mod Forms
 pub mod Kept
 pub mod KindSafe
@@ -12,6 +10,4 @@ pub mod Kinds
 pub mod Layouts
 pub mod Leaving
 pub mod Meanings
-pub mod Reading
-pub mod Rows
-pub mod Writing
+pub mod Steps

@@ -1,16 +1,16 @@
 ghost use Rattle.std.specs.Prelude.{◌≡◌};
 ghost use Rattle.jv_insn.specs.Forms.{is_category_2};
 ghost use Rattle.jv_insn.specs.Meanings.{NamesConst};
-ghost use Rattle.jv_insn.specs.Finding.{Finds};
+ghost use Rattle.jv_names.specs.Finding.{Finds};
 
-use crate::classes::type_at;
-use crate::fault::Fault;
+use jv_names::type_at;
 use jv_pool::{Pool, PoolItem};
+use jv_read::ReadFault;
 use jv_types::Const;
 use std::alloc::Global;
 
 /// The constant that an index of the pool names.
-fn any_const_at(alloc: Global, pool: &Pool, index: u16) -> Result<Const, Fault>
+fn any_const_at(alloc: Global, pool: &Pool, index: u16) -> Result<Const, ReadFault>
     ensures { Finds (λ const. NamesConst pool.now index const) result }
 {
     match pool.item(index) {
@@ -25,7 +25,7 @@ fn any_const_at(alloc: Global, pool: &Pool, index: u16) -> Result<Const, Fault>
         },
         Some(PoolItem::MethodHandle(_, _)) => Ok(Const::Handle),
         Some(PoolItem::MethodType(_)) => Ok(Const::MethodKind),
-        _ => Err(Fault::Bad),
+        _ => Err(ReadFault::Bad),
     }
 }
 
@@ -37,7 +37,12 @@ fn is_category_2(constant: &Const) -> bool
 }
 
 /// The constant that an index of the pool names, where it is of category 2, or where it isn't.
-pub fn const_at(alloc: Global, pool: &Pool, index: u16, category_2: bool) -> Result<Const, Fault>
+pub fn const_at(
+    alloc: Global,
+    pool: &Pool,
+    index: u16,
+    category_2: bool,
+) -> Result<Const, ReadFault>
     ensures { Finds (λ const. NamesConst pool.now index const × (is_category_2 const ≡ category_2)) result }
 {
     match any_const_at(alloc, pool, index) {
@@ -45,7 +50,7 @@ pub fn const_at(alloc: Global, pool: &Pool, index: u16, category_2: bool) -> Res
             if is_category_2(&constant) == category_2 {
                 Ok(constant)
             } else {
-                Err(Fault::Bad)
+                Err(ReadFault::Bad)
             }
         }
         Err(e) => Err(e),

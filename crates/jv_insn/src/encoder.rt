@@ -1,7 +1,7 @@
 ghost use Rattle.std.specs.Prelude.{◌≡◌, ◌<◌, ◌++◌, length, None, Some, IfOk, OnOk};
 ghost use Rattle.jv_insn.specs.Entries.{entry_of, put_named, put_all, Grows};
-ghost use Rattle.jv_insn.specs.Encoding.{form_of, index_in, insn_text, code_text, MayEncode, DecodesTo};
-ghost use Rattle.jv_insn.specs.Writing.{MayPut};
+ghost use Rattle.jv_insn.specs.Encoding.{form_of, index_in, insn_text, insns_text, MayEncode, DecodesTo};
+ghost use Rattle.jv_insn.specs.Steps.Writing.{MayPut};
 
 use crate::entries::index_of;
 use crate::fault::EncodeRefusal;
@@ -53,7 +53,7 @@ fn put_insn(
 pub fn encode(alloc: Global, body: &Body, pool: &mut PoolWriter) -> Result<Vec<u8>, EncodeRefusal>
     requires { MayEncode pool.old body.now }
     ensures decodes { IfOk result (λ code. DecodesTo pool.new code.items body.now) }
-    ensures text { IfOk result (λ code. code.items ≡ code_text pool.new body.now.insns) }
+    ensures text { IfOk result (λ code. code.items ≡ insns_text pool.new body.now.insns) }
     ensures length { IfOk result (λ code. length code.items ≡ body.now.length) }
     ensures added { OnOk result (put_all body.now.insns pool.old ≡ Some pool.new) }
     ensures full { result ≡ Err EncodeRefusal.PoolFull → put_all body.now.insns pool.old ≡ None }

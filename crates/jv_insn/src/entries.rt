@@ -1,15 +1,17 @@
-ghost use Rattle.std.specs.Prelude.{◌≡◌, false, IfOk};
+ghost use Rattle.std.specs.Prelude.{◌≡◌, false};
 ghost use Rattle.jv_types.specs.declared.instruction.Arg.TheVariants as args;
 ghost use Rattle.jv_pool.specs.declared.item.PoolItem.TheVariants.{Utf8};
 ghost use Rattle.jv_pool.specs.PoolText.{is_hole};
-ghost use Rattle.jv_insn.specs.Entries.{type_text, member_item, method_kind, const_entry, entry_of, put_item, put_class, put_pair, put_member, put_named, Grows};
-ghost use Rattle.jv_insn.specs.Writing.{Puts};
+ghost use Rattle.jv_names.specs.Naming.{type_text};
+ghost use Rattle.jv_insn.specs.Entries.{member_item, method_kind, const_entry, entry_of, put_item, put_class, put_pair, put_member, put_named, Grows};
+ghost use Rattle.jv_insn.specs.Steps.Writing.{Puts};
 
 use crate::fault::EncodeRefusal;
 use jv_desc::{show_field, show_method};
+use jv_names::type_text;
 use jv_pool::{PoolItem, PoolRefusal, PoolWriter};
-use jv_types::{Arg, Const, Desc, FieldRef, MethodRef, RefType, Seq};
-use std::alloc::{AllocError, Global};
+use jv_types::{Arg, Const, FieldRef, MethodRef, RefType, Seq};
+use std::alloc::Global;
 
 /// What a reference to a member is: to a field, or to a method of a class or of an interface (JVMS 4.4.2).
 #[derive(Clone, Copy, Debug, PartialEq, Eq)]
@@ -99,18 +101,6 @@ fn add_member(
     let class_index = add_class(pool, class)?;
     let pair_index = add_pair(pool, name, desc)?;
     add(pool, member_item(kind, class_index, pair_index))
-}
-
-/// The text that names a class or array type (JVMS 4.4.1).
-fn type_text(alloc: Global, of: &RefType) -> Result<Vec<u8>, AllocError>
-    ensures { IfOk result (λ text. text.items ≡ type_text of.now) }
-{
-    match of {
-        RefType::Class(name) => Vec::from_slice(alloc, name.as_slice()),
-        RefType::PrimArray(_) | RefType::Array(_) => {
-            show_field(alloc, &Desc::Ref(of.copy(alloc)?))
-        }
-    }
 }
 
 /// Adds a class or array type, and answers its index.

@@ -1,9 +1,7 @@
 ghost use Rattle.std.specs.Prelude.{◌≡◌};
 ghost use Rattle.jv_insn.specs.declared.fault.BadCode.TheVariants as code;
-ghost use Rattle.jv_insn.specs.declared.fault.Fault.TheVariants as fault;
 ghost use Rattle.jv_insn.specs.declared.fault.EncodeRefusal.TheVariants as refusal;
 
-use jv_desc::BadDesc;
 use std::alloc::{AllocError, AllocFailed};
 use thiserror::Error;
 
@@ -54,29 +52,5 @@ impl From<AllocError> for EncodeRefusal {
 
     fn from(_e: AllocError) -> EncodeRefusal {
         EncodeRefusal::Memory
-    }
-}
-
-/// Why a part of a code was not read, or names nothing that it may name.
-#[derive(Clone, Copy, Debug, PartialEq, Eq)]
-pub enum Fault {
-    Bad,
-    /// Memory is wanting.
-    Memory,
-}
-
-impl From<AllocError> for Fault {
-    ghost from_gives = { λ _ e. e ≡ fault.Memory };
-
-    fn from(_e: AllocError) -> Fault {
-        Fault::Memory
-    }
-}
-
-impl<T: Drop> From<AllocFailed<T>> for Fault {
-    ghost from_gives = { λ _ e. e ≡ fault.Memory };
-
-    fn from(_e: AllocFailed<T>) -> Fault {
-        Fault::Memory
     }
 }

@@ -1,18 +1,18 @@
 ghost use Rattle.std.specs.Prelude.{◌≡◌, ◌↔◌, IsTrue, IfOk};
 ghost use Rattle.jv_insn.specs.Decoding.{Catches, HasBounds, IsHandler};
-ghost use Rattle.jv_insn.specs.Rows.{AreRows, AreHandlers, lesser};
-ghost use Rattle.jv_insn.specs.Finding.{Finds};
+ghost use Rattle.jv_insn.specs.Steps.Rows.{AreRows, AreHandlers, lesser};
+ghost use Rattle.jv_names.specs.Finding.{Finds};
 
-use crate::classes::class_at;
-use crate::fault::Fault;
 use crate::places::is_start;
 use crate::written::Written;
+use jv_names::class_at;
 use jv_pool::Pool;
+use jv_read::ReadFault;
 use jv_types::{Handler, Name, RawHandler, Seq};
 use std::alloc::{AllocError, Global};
 
 /// The class that an index of the pool names as what a handler catches, and none where it is 0.
-fn catch_of(alloc: Global, pool: &Pool, catch: u16) -> Result<Option<Name>, Fault>
+fn catch_of(alloc: Global, pool: &Pool, catch: u16) -> Result<Option<Name>, ReadFault>
     ensures { Finds (λ name. Catches pool.now catch name) result }
 {
     if catch == 0 {
@@ -42,12 +42,12 @@ fn handler_of(
     length: u16,
     rows: &[(u16, Written)],
     raw: &RawHandler,
-) -> Result<Handler, Fault>
+) -> Result<Handler, ReadFault>
     requires { AreRows rows.now }
     ensures { Finds (λ handler. IsHandler pool.now length rows.now raw.now handler) result }
 {
     if !has_bounds(length, rows, raw) {
-        return Err(Fault::Bad);
+        return Err(ReadFault::Bad);
     }
     match catch_of(alloc, pool, raw.catch) {
         Ok(catch) => Ok(Handler {
@@ -87,8 +87,8 @@ pub fn handlers_of(
     for raw in raws {
         match handler_of(alloc, pool, length, rows, raw) {
             Ok(handler) => handlers.push(handler)?,
-            Err(Fault::Bad) => least = Some(lesser(least, raw.start)),
-            Err(Fault::Memory) => return Err(AllocError),
+            Err(ReadFault::Bad) => least = Some(lesser(least, raw.start)),
+            Err(ReadFault::Memory) => return Err(AllocError),
         }
     }
     match least {

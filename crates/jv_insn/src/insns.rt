@@ -1,14 +1,14 @@
 ghost use Rattle.std.specs.Prelude.{◌≡◌, ◌<◌, ◌↔◌, IsTrue, IfOk};
 ghost use Rattle.jv_insn.specs.Effects.{local_of};
 ghost use Rattle.jv_insn.specs.Meanings.{has_local, IsInsn};
-ghost use Rattle.jv_insn.specs.Rows.{AreRows, AreInsns};
-ghost use Rattle.jv_insn.specs.Finding.{Finds};
+ghost use Rattle.jv_insn.specs.Steps.Rows.{AreRows, AreInsns};
+ghost use Rattle.jv_names.specs.Finding.{Finds};
 
-use crate::fault::Fault;
 use crate::locals::{is_load, is_store, local_of};
 use crate::operands::arg_of;
 use crate::written::Written;
 use jv_pool::Pool;
+use jv_read::ReadFault;
 use jv_table::{opcode, ops};
 use jv_types::{Arg, Insn};
 use std::alloc::{AllocError, Global};
@@ -35,12 +35,12 @@ fn insn_of(
     rows: &[(u16, Written)],
     pc: u16,
     written: &Written,
-) -> Result<Insn, Fault>
+) -> Result<Insn, ReadFault>
     requires { AreRows rows.now }
     ensures { Finds (λ insn. IsInsn pool.now max_locals rows.now pc written.now insn) result }
 {
     let Some(row) = opcode(written.op) else {
-        return Err(Fault::Bad);
+        return Err(ReadFault::Bad);
     };
     match arg_of(
         alloc,
@@ -59,7 +59,7 @@ fn insn_of(
                     arg,
                 })
             } else {
-                Err(Fault::Bad)
+                Err(ReadFault::Bad)
             }
         }
         Err(e) => Err(e),
@@ -80,8 +80,8 @@ pub fn insns_of(
     for row in rows {
         match insn_of(alloc, pool, max_locals, rows, row.0, &row.1) {
             Ok(insn) => insns.push((row.0, insn))?,
-            Err(Fault::Bad) => return Ok(Err(row.0)),
-            Err(Fault::Memory) => return Err(AllocError),
+            Err(ReadFault::Bad) => return Ok(Err(row.0)),
+            Err(ReadFault::Memory) => return Err(AllocError),
         }
     }
     Ok(Ok(insns))

@@ -1,10 +1,10 @@
 ghost use Rattle.std.specs.Prelude.{◌≤◌, IfOk, length};
 ghost use Rattle.jv_insn.specs.Layouts.{Lays};
 
-use crate::fault::Fault;
 use crate::reader::read_insn;
 use crate::written::Written;
 use jv_bytes::Cursor;
+use jv_read::ReadFault;
 use std::alloc::{AllocError, Global};
 
 /// The instructions of a code as they are written, each with its offset, and the offset at which the code
@@ -26,13 +26,13 @@ pub fn lay(alloc: Global, code: &[u8]) -> Result<Laid, AllocError>
         let pc = code.len() - cursor.left();
         match read_insn(alloc, &mut cursor, pc) {
             Ok(written) => rows.push((pc as u16, written))?,
-            Err(Fault::Bad) => {
+            Err(ReadFault::Bad) => {
                 return Ok(Laid {
                     rows,
                     end: Some(pc as u16),
                 });
             }
-            Err(Fault::Memory) => return Err(AllocError),
+            Err(ReadFault::Memory) => return Err(AllocError),
         }
     }
     Ok(Laid { rows, end: None })

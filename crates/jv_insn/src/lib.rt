@@ -2,7 +2,6 @@
 //! decoded and encoded.
 #![tactic(auto)]
 
-mod classes;
 mod constants;
 mod decoder;
 mod encoder;
@@ -13,8 +12,6 @@ mod insns;
 mod laws;
 mod layout;
 mod locals;
-mod members;
-mod number;
 mod operands;
 mod places;
 mod reader;

@@ -6,17 +6,17 @@ ghost use Rattle.jv_table.specs.declared.code_tables.Form.TheVariants as forms;
 ghost use Rattle.jv_desc.specs.Texts.{prim_letter, ref_dims};
 ghost use Rattle.jv_desc.specs.Reading.{prim_of};
 ghost use Rattle.jv_insn.specs.Meanings.{FitsOp, MayCall, IsCalled, NamesLoad, NamesArg, NamesCalled, NamesSite, NamesPrim, NamesMulti, NamesJump, NamesTable, NamesLookup, NamesOperands};
-ghost use Rattle.jv_insn.specs.Rows.{AreRows};
-ghost use Rattle.jv_insn.specs.Finding.{Finds, FindsSome};
+ghost use Rattle.jv_insn.specs.Steps.Rows.{AreRows};
+ghost use Rattle.jv_names.specs.Finding.{Finds};
+ghost use Rattle.jv_insn.specs.Steps.Finding.{FindsSome};
 
-use crate::classes::type_at;
 use crate::constants::const_at;
-use crate::fault::Fault;
-use crate::members::{field_at, method_at};
 use crate::places::{cases_at, target_at, targets_at};
 use crate::written::{Operands, Written};
 use jv_desc::arg_words;
+use jv_names::{field_at, method_at, type_at};
 use jv_pool::{Pool, PoolItem};
+use jv_read::ReadFault;
 use jv_table::{Form, newarray_code, ops};
 use jv_types::{Arg, MethodRef, Prim, RefType};
 use std::alloc::Global;
@@ -72,7 +72,7 @@ fn prim_at(code: u8) -> Option<Prim>
 }
 
 /// The constant that a load names.
-fn load_arg(alloc: Global, pool: &Pool, index: u16, two: bool) -> Result<Arg, Fault>
+fn load_arg(alloc: Global, pool: &Pool, index: u16, two: bool) -> Result<Arg, ReadFault>
     ensures { Finds (λ arg. NamesLoad pool.now index two arg) result }
 {
     match const_at(alloc, pool, index, two) {
@@ -82,7 +82,7 @@ fn load_arg(alloc: Global, pool: &Pool, index: u16, two: bool) -> Result<Arg, Fa
 }
 
 /// The class or array type that an instruction names.
-fn class_arg(alloc: Global, pool: &Pool, op: u8, index: u16) -> Result<Arg, Fault>
+fn class_arg(alloc: Global, pool: &Pool, op: u8, index: u16) -> Result<Arg, ReadFault>
     ensures { Finds (λ arg. NamesArg forms.Class pool.now op index arg) result }
 {
     match type_at(alloc, pool, index) {
@@ -90,7 +90,7 @@ fn class_arg(alloc: Global, pool: &Pool, op: u8, index: u16) -> Result<Arg, Faul
             if fits_op(op, &of) {
                 Ok(Arg::Class(of))
             } else {
-                Err(Fault::Bad)
+                Err(ReadFault::Bad)
             }
         }
         Err(e) => Err(e),
@@ -98,7 +98,7 @@ fn class_arg(alloc: Global, pool: &Pool, op: u8, index: u16) -> Result<Arg, Faul
 }
 
 /// The field that an instruction names.
-fn field_arg(alloc: Global, pool: &Pool, op: u8, index: u16) -> Result<Arg, Fault>
+fn field_arg(alloc: Global, pool: &Pool, op: u8, index: u16) -> Result<Arg, ReadFault>
     ensures { Finds (λ arg. NamesArg forms.Field pool.now op index arg) result }
 {
     match field_at(alloc, pool, index) {
@@ -115,7 +115,7 @@ fn may_call(op: u8, method: &MethodRef) -> bool
 }
 
 /// The method that an instruction other than invokeinterface names.
-fn method_arg(alloc: Global, pool: &Pool, op: u8, index: u16) -> Result<Arg, Fault>
+fn method_arg(alloc: Global, pool: &Pool, op: u8, index: u16) -> Result<Arg, ReadFault>
     ensures { Finds (λ arg. NamesArg forms.Method pool.now op index arg) result }
 {
     match method_at(alloc, pool, index) {
@@ -123,7 +123,7 @@ fn method_arg(alloc: Global, pool: &Pool, op: u8, index: u16) -> Result<Arg, Fau
             if may_call(op, &method) {
                 Ok(Arg::Method(method))
             } else {
-                Err(Fault::Bad)
+                Err(ReadFault::Bad)
             }
         }
         Err(e) => Err(e),
@@ -131,7 +131,7 @@ fn method_arg(alloc: Global, pool: &Pool, op: u8, index: u16) -> Result<Arg, Fau
 }
 
 /// What an index of the pool names, by the form of the opcode.
-fn named_arg(alloc: Global, pool: &Pool, form: Form, op: u8, index: u16) -> Result<Arg, Fault>
+fn named_arg(alloc: Global, pool: &Pool, form: Form, op: u8, index: u16) -> Result<Arg, ReadFault>
     ensures { Finds (λ arg. NamesArg form pool.now op index arg) result }
 {
     match form {
@@ -140,7 +140,7 @@ fn named_arg(alloc: Global, pool: &Pool, form: Form, op: u8, index: u16) -> Resu
         Form::Class => class_arg(alloc, pool, op, index),
         Form::Field => field_arg(alloc, pool, op, index),
         Form::Method => method_arg(alloc, pool, op, index),
-        _ => Err(Fault::Bad),
+        _ => Err(ReadFault::Bad),
     }
 }
 
@@ -152,7 +152,7 @@ fn is_called(words: u8, last: u8, method: &MethodRef) -> bool
 }
 
 /// The method that an invokeinterface names.
-fn called_arg(alloc: Global, pool: &Pool, index: u16, words: u8, last: u8) -> Result<Arg, Fault>
+fn called_arg(alloc: Global, pool: &Pool, index: u16, words: u8, last: u8) -> Result<Arg, ReadFault>
     ensures { Finds (λ arg. NamesCalled pool.now index words last arg) result }
 {
     match method_at(alloc, pool, index) {
@@ -160,7 +160,7 @@ fn called_arg(alloc: Global, pool: &Pool, index: u16, words: u8, last: u8) -> Re
             if is_called(words, last, &method) {
                 Ok(Arg::Method(method))
             } else {
-                Err(Fault::Bad)
+                Err(ReadFault::Bad)
             }
         }
         Err(e) => Err(e),
@@ -168,27 +168,27 @@ fn called_arg(alloc: Global, pool: &Pool, index: u16, words: u8, last: u8) -> Re
 }
 
 /// The call site that an invokedynamic names.
-fn site_arg(pool: &Pool, index: u16) -> Result<Arg, Fault>
+fn site_arg(pool: &Pool, index: u16) -> Result<Arg, ReadFault>
     ensures { Finds (λ arg. NamesSite pool.now index arg) result }
 {
     match pool.item(index) {
         Some(PoolItem::InvokeDynamic(_, _)) => Ok(Arg::Dynamic),
-        _ => Err(Fault::Bad),
+        _ => Err(ReadFault::Bad),
     }
 }
 
 /// The primitive type of a newarray.
-fn prim_arg(code: u8) -> Result<Arg, Fault>
+fn prim_arg(code: u8) -> Result<Arg, ReadFault>
     ensures { Finds (λ arg. NamesPrim code arg) result }
 {
     match prim_at(code) {
         Some(prim) => Ok(Arg::NewPrim(prim)),
-        None => Err(Fault::Bad),
+        None => Err(ReadFault::Bad),
     }
 }
 
 /// The array type of a multianewarray, and how many of its dimensions are made.
-fn multi_arg(alloc: Global, pool: &Pool, index: u16, dims: u8) -> Result<Arg, Fault>
+fn multi_arg(alloc: Global, pool: &Pool, index: u16, dims: u8) -> Result<Arg, ReadFault>
     ensures { Finds (λ arg. NamesMulti pool.now index dims arg) result }
 {
     match type_at(alloc, pool, index) {
@@ -196,7 +196,7 @@ fn multi_arg(alloc: Global, pool: &Pool, index: u16, dims: u8) -> Result<Arg, Fa
             if has_dims(&of, dims) {
                 Ok(Arg::Multi(of, dims))
             } else {
-                Err(Fault::Bad)
+                Err(ReadFault::Bad)
             }
         }
         Err(e) => Err(e),
@@ -204,13 +204,13 @@ fn multi_arg(alloc: Global, pool: &Pool, index: u16, dims: u8) -> Result<Arg, Fa
 }
 
 /// Where a jump leads.
-fn jump_arg(rows: &[(u16, Written)], pc: u16, offset: i32) -> Result<Arg, Fault>
+fn jump_arg(rows: &[(u16, Written)], pc: u16, offset: i32) -> Result<Arg, ReadFault>
     requires { AreRows rows.now }
     ensures { Finds (λ arg. NamesJump rows.now pc offset arg) result }
 {
     match target_at(rows, pc, offset) {
         Some(target) => Ok(Arg::Jump(target)),
-        None => Err(Fault::Bad),
+        None => Err(ReadFault::Bad),
     }
 }
 
@@ -222,12 +222,12 @@ fn table_arg(
     default: i32,
     low: i32,
     offsets: &[i32],
-) -> Result<Arg, Fault>
+) -> Result<Arg, ReadFault>
     requires { AreRows rows.now }
     ensures { Finds (λ arg. NamesTable rows.now pc default low offsets.now arg) result }
 {
     let Some(default) = target_at(rows, pc, default) else {
-        return Err(Fault::Bad);
+        return Err(ReadFault::Bad);
     };
     match targets_at(alloc, rows, pc, offsets) {
         Ok(targets) => Ok(Arg::Table {
@@ -246,12 +246,12 @@ fn lookup_arg(
     pc: u16,
     default: i32,
     cases: &[(i32, i32)],
-) -> Result<Arg, Fault>
+) -> Result<Arg, ReadFault>
     requires { AreRows rows.now }
     ensures { Finds (λ arg. NamesLookup rows.now pc default cases.now arg) result }
 {
     let Some(default) = target_at(rows, pc, default) else {
-        return Err(Fault::Bad);
+        return Err(ReadFault::Bad);
     };
     match cases_at(alloc, rows, pc, cases) {
         Ok(cases) => Ok(Arg::Lookup { default, cases }),
@@ -268,7 +268,7 @@ pub fn arg_of(
     op: u8,
     form: Form,
     operands: &Operands,
-) -> Result<Arg, Fault>
+) -> Result<Arg, ReadFault>
     requires { AreRows rows.now }
     ensures { Finds (λ arg. NamesOperands pool.now rows.now pc op form operands.now arg) result }
 {

@@ -2,11 +2,12 @@ ghost use Rattle.std.specs.Prelude.{◌≡◌, is_some};
 ghost use Rattle.std.specs.List.{AllZip};
 ghost use Rattle.jv_types.specs.Bodies.{at_offset};
 ghost use Rattle.jv_insn.specs.Meanings.{LeadsTo, LeadsCase};
-ghost use Rattle.jv_insn.specs.Rows.{AreRows};
-ghost use Rattle.jv_insn.specs.Finding.{Finds, FindsSome};
+ghost use Rattle.jv_insn.specs.Steps.Rows.{AreRows};
+ghost use Rattle.jv_names.specs.Finding.{Finds};
+ghost use Rattle.jv_insn.specs.Steps.Finding.{FindsSome};
 
-use crate::fault::Fault;
 use crate::written::Written;
+use jv_read::ReadFault;
 use jv_types::Seq;
 use std::alloc::Global;
 
@@ -44,7 +45,7 @@ pub fn targets_at(
     rows: &[(u16, Written)],
     pc: u16,
     offsets: &[i32],
-) -> Result<Seq<u16>, Fault>
+) -> Result<Seq<u16>, ReadFault>
     requires { AreRows rows.now }
     ensures { Finds (λ targets. AllZip (LeadsTo rows.now pc) offsets.now targets) result }
 {
@@ -52,7 +53,7 @@ pub fn targets_at(
     for offset in offsets {
         match target_at(rows, pc, *offset) {
             Some(target) => targets.push(target)?,
-            None => return Err(Fault::Bad),
+            None => return Err(ReadFault::Bad),
         }
     }
     Ok(Seq::from_vec(targets))
@@ -64,7 +65,7 @@ pub fn cases_at(
     rows: &[(u16, Written)],
     pc: u16,
     cases: &[(i32, i32)],
-) -> Result<Seq<(i32, u16)>, Fault>
+) -> Result<Seq<(i32, u16)>, ReadFault>
     requires { AreRows rows.now }
     ensures { Finds (λ targets. AllZip (LeadsCase rows.now pc) cases.now targets) result }
 {
@@ -72,7 +73,7 @@ pub fn cases_at(
     for case in cases {
         match target_at(rows, pc, case.1) {
             Some(target) => targets.push((case.0, target))?,
-            None => return Err(Fault::Bad),
+            None => return Err(ReadFault::Bad),
         }
     }
     Ok(Seq::from_vec(targets))

@@ -3,24 +3,24 @@ ghost use Rattle.std.specs.Ordering.{nat_cmp};
 ghost use Rattle.jv_table.specs.Rows.{row_of};
 ghost use Rattle.jv_table.specs.CodeRows.{newarray_rows};
 ghost use Rattle.jv_insn.specs.Layouts.{layout_of, wide_layout_of, rises_above, values_rise, is_allowed};
-ghost use Rattle.jv_insn.specs.Reading.{Gives, laid_at, plain_at, wide_at, written_at};
+ghost use Rattle.jv_read.specs.Reading.{Gives};
+ghost use Rattle.jv_insn.specs.Steps.Reading.{laid_at, plain_at, wide_at, written_at};
 
-use crate::fault::Fault;
-use crate::number::{read_u1, read_u2, read_u4};
 use crate::switches::{read_lookup, read_table};
 use crate::written::{Operands, Written};
 use jv_bytes::Cursor;
+use jv_read::{ReadFault, read_u1, read_u2, read_u4};
 use jv_table::{Form, newarray_code, opcode, ops};
 use std::alloc::Global;
 
 /// The operands of a form, which begin at an offset of the code.
-#[tactic(auto, unfolding(crate::specs::Reading::laid_at, crate::specs::Reading::operands_at, crate::specs::Reading::one_at, crate::specs::Reading::two_at, crate::specs::Reading::three_at))]
+#[tactic(auto, unfolding(crate::specs::Steps::Reading::laid_at, crate::specs::Steps::Reading::operands_at, crate::specs::Steps::Reading::one_at, crate::specs::Steps::Reading::two_at, crate::specs::Steps::Reading::three_at))]
 fn read_operands(
     alloc: Global,
     cursor: &mut Cursor,
     form: Form,
     at: usize,
-) -> Result<Operands, Fault>
+) -> Result<Operands, ReadFault>
     ensures { Gives (λ x. x) result cursor.new (laid_at (layout_of form) at cursor.old) }
 {
     match form {
@@ -59,13 +59,13 @@ fn read_operands(
         Form::Jump4 => Ok(Operands::Jump(read_u4(cursor)?.cast_signed())),
         Form::TableSwitch => read_table(alloc, cursor, at),
         Form::LookupSwitch => read_lookup(alloc, cursor, at),
-        Form::Wide => Err(Fault::Bad),
+        Form::Wide => Err(ReadFault::Bad),
     }
 }
 
 /// The operands of a form under wide.
-#[tactic(auto, unfolding(crate::specs::Reading::laid_at, crate::specs::Reading::operands_at, crate::specs::Reading::one_at, crate::specs::Reading::two_at))]
-fn read_wide_operands(cursor: &mut Cursor, op: u8, form: Form) -> Result<Operands, Fault>
+#[tactic(auto, unfolding(crate::specs::Steps::Reading::laid_at, crate::specs::Steps::Reading::operands_at, crate::specs::Steps::Reading::one_at, crate::specs::Steps::Reading::two_at))]
+fn read_wide_operands(cursor: &mut Cursor, op: u8, form: Form) -> Result<Operands, ReadFault>
     ensures { Gives (λ x. x) result cursor.new (laid_at (wide_layout_of op form) 0 cursor.old) }
 {
     match form {
@@ -75,7 +75,7 @@ fn read_wide_operands(cursor: &mut Cursor, op: u8, form: Form) -> Result<Operand
             let by = read_u2(cursor)?;
             Ok(Operands::Inc(local, by.cast_signed()))
         }
-        _ => Err(Fault::Bad),
+        _ => Err(ReadFault::Bad),
     }
 }
 
@@ -109,17 +109,17 @@ fn is_allowed(operands: &Operands) -> bool
 }
 
 /// An instruction whose opcode was read, and isn't that of wide.
-#[tactic(auto, unfolding(crate::specs::Reading::plain_at, crate::specs::Reading::insn_of))]
-fn read_plain(alloc: Global, cursor: &mut Cursor, pc: usize, op: u8) -> Result<Written, Fault>
+#[tactic(auto, unfolding(crate::specs::Steps::Reading::plain_at, crate::specs::Steps::Reading::insn_of))]
+fn read_plain(alloc: Global, cursor: &mut Cursor, pc: usize, op: u8) -> Result<Written, ReadFault>
     requires { pc < 65536 }
     ensures { Gives (λ x. x) result cursor.new (plain_at pc op cursor.old) }
 {
     let Some(row) = opcode(op) else {
-        return Err(Fault::Bad);
+        return Err(ReadFault::Bad);
     };
     let operands = read_operands(alloc, cursor, row.form, pc + 1)?;
     if !is_allowed(&operands) {
-        return Err(Fault::Bad);
+        return Err(ReadFault::Bad);
     }
     Ok(Written {
         op,
@@ -129,17 +129,17 @@ fn read_plain(alloc: Global, cursor: &mut Cursor, pc: usize, op: u8) -> Result<W
 }
 
 /// An instruction behind the opcode of wide.
-#[tactic(auto, unfolding(crate::specs::Reading::wide_at, crate::specs::Reading::insn_of))]
-fn read_wide(cursor: &mut Cursor) -> Result<Written, Fault>
+#[tactic(auto, unfolding(crate::specs::Steps::Reading::wide_at, crate::specs::Steps::Reading::insn_of))]
+fn read_wide(cursor: &mut Cursor) -> Result<Written, ReadFault>
     ensures { Gives (λ x. x) result cursor.new (wide_at cursor.old) }
 {
     let op = read_u1(cursor)?;
     let Some(row) = opcode(op) else {
-        return Err(Fault::Bad);
+        return Err(ReadFault::Bad);
     };
     let operands = read_wide_operands(cursor, op, row.form)?;
     if !is_allowed(&operands) {
-        return Err(Fault::Bad);
+        return Err(ReadFault::Bad);
     }
     Ok(Written {
         op,
@@ -150,8 +150,8 @@ fn read_wide(cursor: &mut Cursor) -> Result<Written, Fault>
 
 /// The next instruction, which starts at an offset of the code (JVMS 6.5). It is refused `Bad` where no
 /// instruction stands there.
-#[tactic(auto, unfolding(crate::specs::Reading::written_at))]
-pub fn read_insn(alloc: Global, cursor: &mut Cursor, pc: usize) -> Result<Written, Fault>
+#[tactic(auto, unfolding(crate::specs::Steps::Reading::written_at))]
+pub fn read_insn(alloc: Global, cursor: &mut Cursor, pc: usize) -> Result<Written, ReadFault>
     requires { pc < 65536 }
     ensures { Gives (λ x. x) result cursor.new (written_at pc cursor.old) }
 {

@@ -1,12 +1,11 @@
 ghost use Rattle.std.specs.Prelude.{◌≡◌};
-ghost use Rattle.jv_insn.specs.Reading.{many_at};
+ghost use Rattle.jv_read.specs.Reading.{Gives};
 ghost use Rattle.jv_insn.specs.Layouts.{padding_at};
-ghost use Rattle.jv_insn.specs.Reading.{Gives, s4_at, pair_at, span_of, table_at, lookup_at};
+ghost use Rattle.jv_insn.specs.Steps.Reading.{s4_at, count_at, pair_at, span_of, table_at, lookup_at};
 
-use crate::fault::Fault;
-use crate::number::{read_bytes, read_count, read_s4};
 use crate::written::Operands;
 use jv_bytes::Cursor;
+use jv_read::{Part, ReadFault, read_bytes, read_many, read_u4};
 use jv_types::Seq;
 use std::alloc::Global;
 
@@ -18,7 +17,7 @@ pub fn padding_at(at: usize) -> usize
 }
 
 /// How many values there are from a low one to a high one. There are none where the low one is above.
-#[tactic(auto, unfolding(crate::specs::Reading::span_of))]
+#[tactic(auto, unfolding(crate::specs::Steps::Reading::span_of))]
 fn span_of(low: i32, high: i32) -> Option<u64>
     ensures { result ≡ span_of low high }
 {
@@ -29,21 +28,30 @@ fn span_of(low: i32, high: i32) -> Option<u64>
     }
 }
 
-/// As many offsets.
-fn read_offsets(alloc: Global, cursor: &mut Cursor, count: u64) -> Result<Seq<i32>, Fault>
-    ensures { Gives (λ x. x) result cursor.new (many_at s4_at count cursor.old) }
+/// The signed number in the next four bytes.
+#[tactic(auto, unfolding(crate::specs::Steps::Reading::s4_at))]
+fn read_s4(cursor: &mut Cursor) -> Result<i32, ReadFault>
+    ensures { Gives (λ x. x) result cursor.new (s4_at cursor.old) }
 {
-    let mut offsets = Vec::new(alloc);
-    for _ in 0..count {
-        let offset = read_s4(cursor)?;
-        offsets.push(offset)?;
+    Ok(read_u4(cursor)?.cast_signed())
+}
+
+/// The number in the next four bytes, where a signed number that is read there isn't negative.
+#[tactic(auto, unfolding(crate::specs::Steps::Reading::count_at))]
+fn read_count(cursor: &mut Cursor) -> Result<u32, ReadFault>
+    ensures { Gives (λ x. x) result cursor.new (count_at cursor.old) }
+{
+    let count = read_u4(cursor)?;
+    if count < 0x8000_0000 {
+        Ok(count)
+    } else {
+        Err(ReadFault::Bad)
     }
-    Ok(Seq::from_vec(offsets))
 }
 
 /// A value of a lookupswitch and its offset.
-#[tactic(auto, unfolding(crate::specs::Reading::pair_at))]
-fn read_pair(cursor: &mut Cursor) -> Result<(i32, i32), Fault>
+#[tactic(auto, unfolding(crate::specs::Steps::Reading::pair_at))]
+fn read_pair(cursor: &mut Cursor) -> Result<(i32, i32), ReadFault>
     ensures { Gives (λ x. x) result cursor.new (pair_at cursor.old) }
 {
     let value = read_s4(cursor)?;
@@ -51,21 +59,37 @@ fn read_pair(cursor: &mut Cursor) -> Result<(i32, i32), Fault>
     Ok((value, offset))
 }
 
-/// As many values, each with its offset.
-fn read_cases(alloc: Global, cursor: &mut Cursor, count: u32) -> Result<Seq<(i32, i32)>, Fault>
-    ensures { Gives (λ x. x) result cursor.new (many_at pair_at count cursor.old) }
-{
-    let mut cases = Vec::new(alloc);
-    for _ in 0..count {
-        let case = read_pair(cursor)?;
-        cases.push(case)?;
+/// The offsets of a tableswitch, read one by one.
+#[derive(Clone, Copy)]
+struct OffsetPart;
+
+impl Part for OffsetPart {
+    type Item = i32;
+
+    ghost part_at = { λ p bytes. s4_at bytes };
+
+    fn read(&self, cursor: &mut Cursor) -> Result<i32, ReadFault> {
+        read_s4(cursor)
     }
-    Ok(Seq::from_vec(cases))
+}
+
+/// The cases of a lookupswitch, read one by one.
+#[derive(Clone, Copy)]
+struct CasePart;
+
+impl Part for CasePart {
+    type Item = (i32, i32);
+
+    ghost part_at = { λ p bytes. pair_at bytes };
+
+    fn read(&self, cursor: &mut Cursor) -> Result<(i32, i32), ReadFault> {
+        read_pair(cursor)
+    }
 }
 
 /// The operands of a tableswitch that begin at an offset of the code (JVMS 6.5).
-#[tactic(auto, unfolding(crate::specs::Reading::table_at))]
-pub fn read_table(alloc: Global, cursor: &mut Cursor, at: usize) -> Result<Operands, Fault>
+#[tactic(auto, unfolding(crate::specs::Steps::Reading::table_at))]
+pub fn read_table(alloc: Global, cursor: &mut Cursor, at: usize) -> Result<Operands, ReadFault>
     ensures { Gives (λ x. x) result cursor.new (table_at at cursor.old) }
 {
     let _padding = read_bytes(cursor, padding_at(at))?;
@@ -73,24 +97,27 @@ pub fn read_table(alloc: Global, cursor: &mut Cursor, at: usize) -> Result<Opera
     let low = read_s4(cursor)?;
     let high = read_s4(cursor)?;
     let Some(count) = span_of(low, high) else {
-        return Err(Fault::Bad);
+        return Err(ReadFault::Bad);
     };
-    let offsets = read_offsets(alloc, cursor, count)?;
+    let offsets = read_many(alloc, cursor, &OffsetPart, count)?;
     Ok(Operands::Table {
         default,
         low,
-        offsets,
+        offsets: Seq::from_vec(offsets),
     })
 }
 
 /// The operands of a lookupswitch that begin at an offset of the code (JVMS 6.5).
-#[tactic(auto, unfolding(crate::specs::Reading::lookup_at))]
-pub fn read_lookup(alloc: Global, cursor: &mut Cursor, at: usize) -> Result<Operands, Fault>
+#[tactic(auto, unfolding(crate::specs::Steps::Reading::lookup_at))]
+pub fn read_lookup(alloc: Global, cursor: &mut Cursor, at: usize) -> Result<Operands, ReadFault>
     ensures { Gives (λ x. x) result cursor.new (lookup_at at cursor.old) }
 {
     let _padding = read_bytes(cursor, padding_at(at))?;
     let default = read_s4(cursor)?;
     let count = read_count(cursor)?;
-    let cases = read_cases(alloc, cursor, count)?;
-    Ok(Operands::Lookup { default, cases })
+    let cases = read_many(alloc, cursor, &CasePart, u64::from(count))?;
+    Ok(Operands::Lookup {
+        default,
+        cases: Seq::from_vec(cases),
+    })
 }

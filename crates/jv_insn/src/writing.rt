@@ -3,8 +3,8 @@ ghost use Rattle.std.specs.Int.{w8, w32};
 ghost use Rattle.std.specs.List.{flat_map};
 ghost use Rattle.jv_bytes.specs.Numbers.{number_text};
 ghost use Rattle.jv_insn.specs.Layouts.{s4_text, padding_at, head_text};
-ghost use Rattle.jv_insn.specs.Encoding.{is_narrow, small_text, signed_text, behind_method, atype_of, branch_offset, jump_text, padding_text, table_text, case_text, lookup_text, arg_text};
-ghost use Rattle.jv_insn.specs.Writing.{FitsMethod, FitsJump, FitsArg};
+ghost use Rattle.jv_insn.specs.Encoding.{is_narrow, small_text, signed_text, behind_method, atype_of, branch_offset, jump_text, padding_text, table_text, case_text, lookup_text, operand_text};
+ghost use Rattle.jv_insn.specs.Steps.Writing.{FitsMethod, FitsJump, FitsArg};
 
 use crate::switches::padding_at;
 use jv_bytes::Writer;
@@ -206,7 +206,7 @@ pub fn put_arg(
     index: u16,
 ) -> Result<(), AllocError>
     requires { FitsArg form wide pc arg.now index }
-    ensures { OnOk result (writer.new ≡ writer.old ++ arg_text form wide pc arg.now index) }
+    ensures { OnOk result (writer.new ≡ writer.old ++ operand_text form wide pc arg.now index) }
 {
     let narrow = is_narrow(form, wide);
     match arg {

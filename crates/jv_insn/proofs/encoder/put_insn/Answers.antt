@@ -1,10 +1,10 @@
 -- An instruction that is written.
 use Rattle.std.proofs.Common.{◌≡◌, ◌<◌, ◌++◌, ℕ, List, Some, sym, ap, subst, ◌∙◌, append_assoc, arith}
 use Rattle.jv_table.specs.declared.code_tables.Form.{Form}
-use Rattle.jv_insn.specs.Encoding.{form_of, arg_text}
+use Rattle.jv_insn.specs.Encoding.{form_of, operand_text}
 use Rattle.jv_insn.specs.Layouts.{head_text}
 use Rattle.jv_insn.proofs.Placed.{arg_put, index_is}
-use Rattle.jv_insn.specs.Writing.{FitsArg}
+use Rattle.jv_insn.specs.Steps.Writing.{FitsArg}
 use Rattle.jv_insn.proofs.Encoded.{insn_again, near_index}
 use Rattle.jv_insn.proofs.encoder.put_insn.Goals as goal
 
@@ -32,13 +32,13 @@ returns-clause-text c =
     let put = arg_put insn.arg c.args.pool.now (c.in_ok-index.index, c.index_of.new.pool) c.in_ok-index.ensures.put in
     let index = index_is c.index_of.new.pool insn.arg c.in_ok-index.index put.stands in
     let head = head_text insn.wide insn.op in
-    let behind : c.put_arg.new.writer ≡ c.put_head.new.writer ++ arg_text c.form_of.result insn.wide c.args.pc insn.arg c.in_ok-index.index = c.in_ok-put_arg.ensures in
+    let behind : c.put_arg.new.writer ≡ c.put_head.new.writer ++ operand_text c.form_of.result insn.wide c.args.pc insn.arg c.in_ok-index.index = c.in_ok-put_arg.ensures in
     let before : c.put_head.new.writer ≡ c.args.writer.now ++ head = c.in_ok-put_head.ensures in
     behind
-    ∙ ap (λ (w : List ℕ). w ++ arg_text c.form_of.result insn.wide c.args.pc insn.arg c.in_ok-index.index) before
-    ∙ append_assoc c.args.writer.now head (arg_text c.form_of.result insn.wide c.args.pc insn.arg c.in_ok-index.index)
-    ∙ ap (λ (f : Form). c.args.writer.now ++ (head ++ arg_text f insn.wide c.args.pc insn.arg c.in_ok-index.index)) c.form_of.ensures
-    ∙ ap (λ (k : ℕ). c.args.writer.now ++ (head ++ arg_text (form_of insn.op) insn.wide c.args.pc insn.arg k)) (sym index)
+    ∙ ap (λ (w : List ℕ). w ++ operand_text c.form_of.result insn.wide c.args.pc insn.arg c.in_ok-index.index) before
+    ∙ append_assoc c.args.writer.now head (operand_text c.form_of.result insn.wide c.args.pc insn.arg c.in_ok-index.index)
+    ∙ ap (λ (f : Form). c.args.writer.now ++ (head ++ operand_text f insn.wide c.args.pc insn.arg c.in_ok-index.index)) c.form_of.ensures
+    ∙ ap (λ (k : ℕ). c.args.writer.now ++ (head ++ operand_text (form_of insn.op) insn.wide c.args.pc insn.arg k)) (sym index)
 
 pub returns-clause-small : goal.returns-clause-small
 returns-clause-small c =

@@ -1,6 +1,6 @@
 -- The handlers so far, or the least offset of an entry that is none.
 use Rattle.std.proofs.Common.{take}
-use Rattle.jv_insn.specs.Rows.{HandlersSoFar}
+use Rattle.jv_insn.specs.Steps.Rows.{HandlersSoFar}
 use Rattle.jv_insn.proofs.handlers.handlers_of.Given as goal
 
 abbrev pub invariant-loop-raw : goal.invariant-loop-raw

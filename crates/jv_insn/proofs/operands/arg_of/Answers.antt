@@ -3,7 +3,7 @@ use Rattle.std.proofs.Common.{rules}
 use Rattle.std.specs.Int.{w32}
 use mir.Val.{SFits, to_z, of_z}
 use Rattle.jv_insn.specs.Meanings.{NamesJump, NamesTable, NamesLookup}
-use Rattle.jv_insn.specs.Finding.{Finds}
+use Rattle.jv_names.specs.Finding.{Finds}
 use Rattle.jv_insn.proofs.Bits.{of_bits}
 use Rattle.jv_insn.proofs.operands.arg_of.Goals as goal
 

@@ -1,7 +1,9 @@
 -- What an invokeinterface names is one method.
 use Rattle.std.proofs.Common.{refl}
-use Rattle.jv_insn.specs.Meanings.{NamesMethod, NamesCalled}
-use Rattle.jv_insn.proofs.Refusing.{called_refused, refuted, none_for}
+use Rattle.jv_names.specs.Naming.{NamesMethod}
+use Rattle.jv_insn.specs.Meanings.{NamesCalled}
+use Rattle.jv_insn.proofs.Refusing.{called_refused, refuted}
+use Rattle.jv_names.proofs.Refused.{none_for}
 use Rattle.jv_insn.proofs.operands.called_arg.Goals as goal
 
 pub returns-then-is_called : goal.returns-then-is_called

@@ -1,7 +1,9 @@
 -- A type that doesn't fit is the only one there.
 use Rattle.jv_table.specs.declared.code_tables.Form.TheVariants as forms
-use Rattle.jv_insn.specs.Meanings.{NamesType, NamesArg}
-use Rattle.jv_insn.proofs.Refusing.{class_refused, refuted, none_for}
+use Rattle.jv_names.specs.Naming.{NamesType}
+use Rattle.jv_insn.specs.Meanings.{NamesArg}
+use Rattle.jv_insn.proofs.Refusing.{class_refused, refuted}
+use Rattle.jv_names.proofs.Refused.{none_for}
 use Rattle.jv_insn.proofs.operands.class_arg.Goals as goal
 
 pub returns-else-fits_op : goal.returns-else-fits_op

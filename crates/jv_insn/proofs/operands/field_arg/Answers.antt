@@ -1,7 +1,8 @@
 -- What isn't found is found nowhere.
 use Rattle.jv_table.specs.declared.code_tables.Form.TheVariants as forms
-use Rattle.jv_insn.specs.Meanings.{NamesField, NamesArg}
-use Rattle.jv_insn.proofs.Refusing.{none_for}
+use Rattle.jv_names.specs.Naming.{NamesField}
+use Rattle.jv_insn.specs.Meanings.{NamesArg}
+use Rattle.jv_names.proofs.Refused.{none_for}
 use Rattle.jv_insn.proofs.operands.field_arg.Goals as goal
 
 pub returns-in-Err : goal.returns-in-Err

@@ -1,8 +1,9 @@
 -- A method that may be called is named.
 use Rattle.std.proofs.Common.{refl}
 use Rattle.jv_table.specs.declared.code_tables.Form.TheVariants as forms
-use Rattle.jv_insn.specs.Meanings.{NamesMethod, NamesArg}
-use Rattle.jv_insn.proofs.Refusing.{none_for}
+use Rattle.jv_names.specs.Naming.{NamesMethod}
+use Rattle.jv_insn.specs.Meanings.{NamesArg}
+use Rattle.jv_names.proofs.Refused.{none_for}
 use Rattle.jv_insn.proofs.operands.method_arg.Goals as goal
 
 pub returns-then-may_call : goal.returns-then-may_call

@@ -1,6 +1,8 @@
 -- A type of too few dimensions is the only one there.
-use Rattle.jv_insn.specs.Meanings.{NamesType, NamesMulti}
-use Rattle.jv_insn.proofs.Refusing.{multi_refused, refuted, none_for}
+use Rattle.jv_names.specs.Naming.{NamesType}
+use Rattle.jv_insn.specs.Meanings.{NamesMulti}
+use Rattle.jv_insn.proofs.Refusing.{multi_refused, refuted}
+use Rattle.jv_names.proofs.Refused.{none_for}
 use Rattle.jv_insn.proofs.operands.multi_arg.Goals as goal
 
 pub returns-else-has_dims : goal.returns-else-has_dims

@@ -1,7 +1,7 @@
 -- A byte is the text of its number.
 use Rattle.std.proofs.Common.{◌<◌, ◌++◌, List, ℕ, ap, sym, ◌∙◌, arith}
 use Rattle.std.proofs.lemmas.Result.{on_ok_weaker}
-use Rattle.jv_insn.proofs.Numbers.{byte_text}
+use Rattle.jv_read.proofs.Fronts.{byte_text}
 use Rattle.jv_insn.proofs.writing.put_byte.Goals as goal
 
 pub returns : goal.returns

@@ -1,23 +1,12 @@
 -- Reading an instruction from the front of a list of bytes, part by part. Readers are proved to give what
 -- these functions give; laws of lists join the functions with the texts of Layouts.
-use Rattle.std.specs.Prelude.{◌≡◌, ◌+◌, ℕ, zero, suc, ℤ, Bool, true, false, if◌then◌else◌, ◌==◌, nat_lt, int_le, List, [], ◌∷◌, Option, Some, None, Result, Ok, Err}
-use Rattle.jv_pool.specs.Reading.{◌>>=◌, u1_at, number_at, bytes_at}
-use Rattle.jv_insn.specs.declared.fault.Fault.{Fault}
-use Rattle.jv_insn.specs.declared.fault.Fault.TheVariants as faults
+use Rattle.std.specs.Prelude.{◌+◌, ℕ, ℤ, Bool, true, false, if◌then◌else◌, ◌==◌, nat_lt, int_le, List, Option, Some, None}
+use Rattle.jv_read.specs.Reading.{◌>>=◌, u1_at, number_at, bytes_at, many_at}
 use Rattle.jv_insn.specs.declared.written.Operands.{Operands}
 use Rattle.jv_insn.specs.declared.written.Operands.TheVariants.{Nothing, Table, Lookup}
 use Rattle.jv_insn.specs.declared.written.Written.{Written}
 use Rattle.jv_insn.specs.Layouts.{Layout, Alone, One, Two, Three, TableSwitch, LookupSwitch, s4, layout_of, wide_layout_of, padding_at, span, is_allowed, wide_op}
 use Rattle.jv_insn.specs.Effects.{op_row}
-
--- what a reader answered, seen by view, with what it left, is what reading gives, unless memory ran out
-abbrev pub Fails : {Y : Type 0} → Fault → Option Y → Type 0
-Fails faults.Memory read = Unit {0}
-Fails faults.Bad read = read ≡ None
-
-abbrev pub Gives : {X Y : Type 0} → (X → Y) → Result X Fault → List ℕ → Option (Y × List ℕ) → Type 0
-Gives view (Ok x) left read = read ≡ Some (view x, left)
-Gives view (Err e) left read = Fails e read
 
 -- ---- numbers
 
@@ -40,14 +29,6 @@ three_at m n k make bytes = do
   Some (make first.0 second.0 third.0, third.1)
 
 -- ---- switches
-
--- as many parts, one after the other
-unfoldable pub many_at : {A : Type 0} → (List ℕ → Option (A × List ℕ)) → ℕ → List ℕ → Option (List A × List ℕ)
-many_at one zero bytes = Some ([], bytes)
-many_at one (suc n) bytes = do
-  first ← one bytes
-  others ← many_at one n first.1
-  Some (first.0 ∷ others.0, others.1)
 
 -- a signed number of four bytes
 unfoldable pub s4_at : List ℕ → Option (ℤ × List ℕ)
