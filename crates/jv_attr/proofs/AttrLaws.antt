@@ -1,5 +1,5 @@
 -- An attribute that is read is spelled so, and what is spelled so is read.
-use Rattle.std.proofs.Common.{◌≡◌, ℕ, ◌^◌, ◌<◌, ◌≤◌, Bool, true, false, cond, eqb, leb, ltb, ◌||◌, IsTrue, List, [], ◌∷◌, ◌++◌, length, Option, Some, None, Result, Ok, Err, refl, sym, ap, ◌∙◌, append_assoc, arith, IfOk}
+use Rattle.std.proofs.Common.{◌≡◌, ℕ, ◌^◌, ◌<◌, ◌≤◌, Bool, true, false, cond, eqb, leb, ltb, ◌||◌, IsTrue, List, [], ◌∷◌, ◌++◌, length, Option, Some, None, refl, sym, ap, ◌∙◌, append_assoc, arith}
 use Rattle.std.specs.Prelude.{count_by}
 use Rattle.std.specs.List.{AllByRecursion, flat_map}
 use Rattle.std.proofs.lemmas.Bool.{eqb-false, ne_eqb, leb-true, le-leb, ltb-false, le-ltb}
@@ -21,7 +21,7 @@ use Rattle.jv_attr.specs.declared.owner.Owner.TheVariants as owner
 use Rattle.jv_attr.specs.FrameText.{frames_text}
 use Rattle.jv_attr.specs.AttrText.{is_code, is_maps, body_text, IsBody, HasFewWith, IsShortWith, no_code_text, IsNoCode, inner_text, IsInner, IsInnerFew, IsInnerShort, has_maps, handler_text, is_catch, IsRawHandler, code_text, IsCode, IsFewCode, IsShortCode, attr_text, IsAttr, HasFew, IsShort, IsAttrText, BeginsWithAttr}
 use Rattle.jv_read.specs.Reading.{counted_at}
-use Rattle.jv_attr.specs.AttrReading.{maps_at, head_at, other_at, inner_at, handler_at, handlers_at, code_bytes_at, inners_at, code_at, whole_code_at, body_at, attr_at}
+use Rattle.jv_attr.specs.Steps.AttrReading.{maps_at, head_at, other_at, inner_at, handler_at, handlers_at, code_bytes_at, inners_at, code_at, whole_code_at, body_at, attr_at}
 use Rattle.jv_read.proofs.Many.{counted_take, counted_again}
 use Rattle.jv_attr.proofs.FrameLaws.{maps_take, maps_again, nothing_left}
 

@@ -1,10 +1,9 @@
 -- The tests of counts pass exactly where the counts fit.
 use Rattle.std.proofs.Common.{◌≡◌, Bool, true, false, ltb, ◌&&◌, List, [], ◌∷◌, length, Option, Some, None, refl}
 use Rattle.std.specs.List.{list_all, AllByRecursion}
-use Rattle.std.proofs.lemmas.Bool.{ltb-true, lt-ltb}
+use Rattle.std.proofs.lemmas.Bool.{and_parts, ltb-true, lt-ltb}
 use Rattle.jv_table.specs.declared.class_tables.FrameGroup.{FrameGroup}
 use Rattle.jv_table.specs.declared.class_tables.FrameGroup.TheVariants.{Same, SameOne, SameOneExtended, Chop, SameExtended, Append, Full}
-use Rattle.jv_pool.proofs.Units.{both_true}
 use Rattle.jv_attr.specs.declared.frame.MapFrame.{MapFrame}
 use Rattle.jv_attr.specs.declared.attr.Attr.{Attr}
 use Rattle.jv_attr.specs.declared.attr.AttrBody.{AttrBody}
@@ -20,7 +19,7 @@ use Rattle.jv_attr.specs.Few.{has_few_parts, has_few_types, are_few_frames, is_b
 all_to : {A : Type 0} (t : A → Bool) (P : A → Type 0) → ((a : A) → t a ≡ true → P a) → (xs : List A) → list_all t xs ≡ true → AllByRecursion P xs
 all_to t P one [] e = tt
 all_to t P one (x ∷ xs) e =
-    let h = both_true (t x) (list_all t xs) e in
+    let h = and_parts (t x) (list_all t xs) e in
     (one x h.0, all_to t P one xs h.1)
 
 both_are : (p q : Bool) → p ≡ true → q ≡ true → (p && q) ≡ true
@@ -42,7 +41,7 @@ parts_to (Some Chop) f e = tt
 parts_to (Some SameExtended) f e = tt
 parts_to (Some Append) f e = tt
 parts_to (Some Full) f e =
-    let h = both_true (ltb (length f.locals) 65536) (ltb (length f.stack) 65536) e in
+    let h = and_parts (ltb (length f.locals) 65536) (ltb (length f.stack) 65536) e in
     (ltb-true (length f.locals) 65536 h.0, ltb-true (length f.stack) 65536 h.1)
 
 parts_from : (o : Option FrameGroup) (f : MapFrame) → HasFewParts o f → has_few_parts o f ≡ true
@@ -65,7 +64,7 @@ types_from f h = parts_from (group_of f.kind) f h
 
 frames_to : (frames : List MapFrame) → are_few_frames frames ≡ true → AreFewFrames frames
 frames_to frames e =
-    let h = both_true (ltb (length frames) 65536) (list_all has_few_types frames) e in
+    let h = and_parts (ltb (length frames) 65536) (list_all has_few_types frames) e in
     (ltb-true (length frames) 65536 h.0, all_to has_few_types HasFewTypes types_to frames h.1)
 
 frames_from : (frames : List MapFrame) → AreFewFrames frames → are_few_frames frames ≡ true
@@ -94,8 +93,8 @@ inner_from a h = body_from is_no_few IsNoCode (λ c h. elim c [ ]) a.body h
 
 code_to : (c : CodeAttr) → is_few_code c ≡ true → IsFewCode c
 code_to c e =
-    let h = both_true (ltb (length c.handlers) 65536 && ltb (length c.attrs) 65536) (list_all is_inner_few c.attrs) e in
-    let g = both_true (ltb (length c.handlers) 65536) (ltb (length c.attrs) 65536) h.0 in
+    let h = and_parts (ltb (length c.handlers) 65536 && ltb (length c.attrs) 65536) (list_all is_inner_few c.attrs) e in
+    let g = and_parts (ltb (length c.handlers) 65536) (ltb (length c.attrs) 65536) h.0 in
     record { handlers = ltb-true (length c.handlers) 65536 g.0; attrs = ltb-true (length c.attrs) 65536 g.1; each = all_to is_inner_few IsInnerFew inner_to c.attrs h.1 }
 
 code_from : (c : CodeAttr) → IsFewCode c → is_few_code c ≡ true

@@ -1,6 +1,6 @@
 -- Frames that are read are spelled so, and what is spelled so is read.
 use Rattle.std.proofs.Common.{◌≡◌, ℕ, ◌-◌, ◌^◌, ◌<◌, Bool, true, false, cond, eqb, List, [], ◌∷◌, ◌++◌, length, Option, Some, None, refl, sym, ap, subst, ◌∙◌, append_assoc, arith}
-use Rattle.std.specs.List.{AllByRecursion, flat_map}
+use Rattle.std.specs.List.{AllByRecursion}
 use Rattle.std.proofs.lemmas.Bool.{eqb-true}
 use Rattle.std.proofs.lemmas.List.{append-nil}
 use Rattle.jv_table.specs.declared.class_tables.FrameGroup.{FrameGroup}
@@ -13,7 +13,7 @@ use Rattle.jv_attr.specs.declared.frame.MapType.{MapType}
 use Rattle.jv_attr.specs.declared.frame.MapFrame.{MapFrame}
 use Rattle.jv_attr.specs.FrameText.{has_arg, group_of, type_arg_text, type_text, IsArg, is_typed, IsType, types_text, parts_text, frame_text, HasParts, IsFrame, HasFewParts, HasFewTypes, frames_text, AreFewFrames}
 use Rattle.jv_read.specs.Reading.{many_at}
-use Rattle.jv_attr.specs.AttrReading.{arg_at, type_at, types_at, counted_types_at, same_one_at, same_one_extended_at, delta_at, append_at, full_at, parts_at, frame_at, frames_at, maps_at}
+use Rattle.jv_attr.specs.Steps.AttrReading.{arg_at, type_at, types_at, counted_types_at, same_one_at, same_one_extended_at, delta_at, append_at, full_at, parts_at, frame_at, frames_at, maps_at}
 use Rattle.jv_read.proofs.Many.{many_take, many_again, counted_take, counted_again, both_of, first_of_both, second_of_both}
 
 -- ---- verification types

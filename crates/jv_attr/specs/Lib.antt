@@ -1,4 +1,4 @@
 pub mod FrameText
 pub mod AttrText
-pub mod AttrReading
 pub mod Few
+pub mod Steps

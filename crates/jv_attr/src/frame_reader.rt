@@ -1,9 +1,8 @@
-ghost use Rattle.std.specs.Prelude.{◌≡◌, false};
-ghost use Rattle.std.specs.Option.{option_map, option_copied};
+ghost use Rattle.std.specs.Prelude.{◌≡◌};
 ghost use Rattle.jv_pool.specs.Lookups.{names, is_class};
-ghost use Rattle.jv_attr.specs.FrameText.{has_arg, group_of, is_typed};
+ghost use Rattle.jv_attr.specs.FrameText.{has_arg, group_of};
 ghost use Rattle.jv_read.specs.Reading.{Gives, GivesAll};
-ghost use Rattle.jv_attr.specs.AttrReading.{arg_at, type_at, types_at, counted_types_at, same_one_at, same_one_extended_at, delta_at, append_at, full_at, parts_at, frame_at, frames_at, maps_at};
+ghost use Rattle.jv_attr.specs.Steps.AttrReading.{arg_at, type_at, types_at, counted_types_at, same_one_at, same_one_extended_at, delta_at, append_at, full_at, parts_at, frame_at, frames_at, maps_at};
 
 use crate::frame::{MapFrame, MapType};
 use jv_bytes::Cursor;
@@ -43,7 +42,7 @@ pub fn group_of(kind: u8) -> Option<FrameGroup>
 }
 
 /// The number behind a tag, and 0 where none is written.
-#[tactic(auto, unfolding(crate::specs::AttrReading::arg_at))]
+#[tactic(auto, unfolding(crate::specs::Steps::AttrReading::arg_at))]
 fn read_arg(cursor: &mut Cursor, written: bool) -> Result<u16, ReadFault>
     ensures { Gives (λ x. x) result cursor.new (arg_at written cursor.old) }
 {
@@ -51,7 +50,7 @@ fn read_arg(cursor: &mut Cursor, written: bool) -> Result<u16, ReadFault>
 }
 
 /// A verification type (JVMS 4.7.4). The number of an object (tag 7) names a class.
-#[tactic(auto, unfolding(crate::specs::AttrReading::type_at))]
+#[tactic(auto, unfolding(crate::specs::Steps::AttrReading::type_at))]
 fn read_type(cursor: &mut Cursor, pool: &Pool) -> Result<MapType, ReadFault>
     ensures { Gives (λ x. x) result cursor.new (type_at pool.now cursor.old) }
 {
@@ -108,7 +107,7 @@ fn read_counted_types(
 }
 
 /// A frame without a delta, which has one type on the stack.
-#[tactic(auto, unfolding(crate::specs::AttrReading::same_one_at))]
+#[tactic(auto, unfolding(crate::specs::Steps::AttrReading::same_one_at))]
 fn read_same_one(
     alloc: Global,
     cursor: &mut Cursor,
@@ -127,7 +126,7 @@ fn read_same_one(
 }
 
 /// A frame with a delta, which has one type on the stack.
-#[tactic(auto, unfolding(crate::specs::AttrReading::same_one_extended_at))]
+#[tactic(auto, unfolding(crate::specs::Steps::AttrReading::same_one_extended_at))]
 fn read_same_one_extended(
     alloc: Global,
     cursor: &mut Cursor,
@@ -147,7 +146,7 @@ fn read_same_one_extended(
 }
 
 /// A frame that has a delta alone.
-#[tactic(auto, unfolding(crate::specs::AttrReading::delta_at))]
+#[tactic(auto, unfolding(crate::specs::Steps::AttrReading::delta_at))]
 fn read_delta(alloc: Global, cursor: &mut Cursor, kind: u8) -> Result<MapFrame, ReadFault>
     ensures { Gives (λ x. x) result cursor.new (delta_at kind cursor.old) }
 {
@@ -161,7 +160,7 @@ fn read_delta(alloc: Global, cursor: &mut Cursor, kind: u8) -> Result<MapFrame, 
 }
 
 /// A frame that appends as many locals as its kind is above 251.
-#[tactic(auto, unfolding(crate::specs::AttrReading::append_at))]
+#[tactic(auto, unfolding(crate::specs::Steps::AttrReading::append_at))]
 fn read_append(
     alloc: Global,
     cursor: &mut Cursor,
@@ -182,7 +181,7 @@ fn read_append(
 }
 
 /// A frame that has everything.
-#[tactic(auto, unfolding(crate::specs::AttrReading::full_at))]
+#[tactic(auto, unfolding(crate::specs::Steps::AttrReading::full_at))]
 fn read_full(
     alloc: Global,
     cursor: &mut Cursor,
@@ -203,7 +202,7 @@ fn read_full(
 }
 
 /// What is behind the kind of a frame of a group.
-#[tactic(auto, unfolding(crate::specs::AttrReading::parts_at))]
+#[tactic(auto, unfolding(crate::specs::Steps::AttrReading::parts_at))]
 fn read_parts(
     alloc: Global,
     cursor: &mut Cursor,
@@ -229,7 +228,7 @@ fn read_parts(
 }
 
 /// A frame (JVMS 4.7.4).
-#[tactic(auto, unfolding(crate::specs::AttrReading::frame_at))]
+#[tactic(auto, unfolding(crate::specs::Steps::AttrReading::frame_at))]
 fn read_frame(alloc: Global, cursor: &mut Cursor, pool: &Pool) -> Result<MapFrame, ReadFault>
     ensures { Gives (λ x. x) result cursor.new (frame_at pool.now cursor.old) }
 {
@@ -266,7 +265,7 @@ fn read_frames(alloc: Global, cursor: &mut Cursor, pool: &Pool) -> Result<Seq<Ma
 }
 
 /// The frames that are all of a content.
-#[tactic(auto, unfolding(crate::specs::AttrReading::maps_at))]
+#[tactic(auto, unfolding(crate::specs::Steps::AttrReading::maps_at))]
 pub fn read_maps(alloc: Global, content: &[u8], pool: &Pool) -> Result<Seq<MapFrame>, ReadFault>
     ensures { GivesAll (λ x. x) result (maps_at pool.now content.now) }
 {

@@ -1,11 +1,11 @@
-ghost use Rattle.std.specs.Prelude.{◌≡◌, ◌≤◌, count_by, length, List, ℕ, IfOk, Err, ◌++◌, []};
+ghost use Rattle.std.specs.Prelude.{◌≡◌, count_by, List, ℕ, IfOk, Err, ◌++◌, []};
 ghost use Rattle.jv_pool.specs.declared.item.PoolItem.{PoolItem};
 ghost use Rattle.jv_attr.specs.declared.attr.Attr.{Attr};
 ghost use Rattle.jv_attr.specs.declared.attr.CodeAttr.{CodeAttr};
 ghost use Rattle.jv_attr.specs.declared.owner.Owner as owners;
 ghost use Rattle.jv_attr.specs.AttrText.{is_code, is_maps, is_catch, has_maps, IsAttrText, BeginsWithAttr};
 ghost use Rattle.jv_read.specs.Reading.{Gives, GivesAll};
-ghost use Rattle.jv_attr.specs.AttrReading.{head_at, other_at, inner_at, handler_at, handlers_at, code_bytes_at, inners_at, code_at, whole_code_at, body_at, attr_at};
+ghost use Rattle.jv_attr.specs.Steps.AttrReading.{head_at, other_at, inner_at, handler_at, handlers_at, code_bytes_at, inners_at, code_at, whole_code_at, body_at, attr_at};
 
 use crate::attr::{Attr, AttrBody, CodeAttr, NoCode};
 use crate::fault::BadAttr;
@@ -49,7 +49,7 @@ fn is_maps(owner: Owner, major: u16, name: &[u8]) -> bool
 }
 
 /// A name with its text, and a content (JVMS 4.7).
-#[tactic(auto, unfolding(crate::specs::AttrReading::head_at))]
+#[tactic(auto, unfolding(crate::specs::Steps::AttrReading::head_at))]
 fn read_head<'p, 'a>(cursor: &mut Cursor<'a>, pool: &'p Pool) -> Result<Head<'p, 'a>, ReadFault>
     ensures { Gives (λ h. (h.name, h.text.now, h.content.now)) result cursor.new (head_at pool.now cursor.old) }
 {
@@ -67,7 +67,7 @@ fn read_head<'p, 'a>(cursor: &mut Cursor<'a>, pool: &'p Pool) -> Result<Head<'p,
 }
 
 /// What stands in an attribute that isn't read as code.
-#[tactic(auto, unfolding(crate::specs::AttrReading::other_at))]
+#[tactic(auto, unfolding(crate::specs::Steps::AttrReading::other_at))]
 fn read_other<C: Drop>(
     alloc: Global,
     content: &[u8],
@@ -85,7 +85,7 @@ fn read_other<C: Drop>(
 }
 
 /// An attribute of a `Code`.
-#[tactic(auto, unfolding(crate::specs::AttrReading::inner_at))]
+#[tactic(auto, unfolding(crate::specs::Steps::AttrReading::inner_at))]
 fn read_inner(
     alloc: Global,
     cursor: &mut Cursor,
@@ -136,7 +136,7 @@ fn count_maps(attrs: &[Attr<NoCode>]) -> usize
 }
 
 /// The attributes of a `Code`, at most one of which has frames.
-#[tactic(auto, unfolding(crate::specs::AttrReading::inners_at))]
+#[tactic(auto, unfolding(crate::specs::Steps::AttrReading::inners_at))]
 fn read_inners(
     alloc: Global,
     cursor: &mut Cursor,
@@ -161,7 +161,7 @@ fn is_catch(pool: &Pool, catch: u16) -> bool
 }
 
 /// A handler (JVMS 4.7.3).
-#[tactic(auto, unfolding(crate::specs::AttrReading::handler_at))]
+#[tactic(auto, unfolding(crate::specs::Steps::AttrReading::handler_at))]
 fn read_handler(cursor: &mut Cursor, pool: &Pool) -> Result<RawHandler, ReadFault>
     ensures { Gives (λ x. x) result cursor.new (handler_at pool.now cursor.old) }
 {
@@ -209,7 +209,7 @@ fn read_handlers(
 }
 
 /// The bytes of a code, of which there are 1 to 65535.
-#[tactic(auto, unfolding(crate::specs::AttrReading::code_bytes_at))]
+#[tactic(auto, unfolding(crate::specs::Steps::AttrReading::code_bytes_at))]
 fn read_code_bytes(alloc: Global, cursor: &mut Cursor) -> Result<Seq<u8>, ReadFault>
     ensures { Gives (λ x. x) result cursor.new (code_bytes_at cursor.old) }
 {
@@ -222,7 +222,7 @@ fn read_code_bytes(alloc: Global, cursor: &mut Cursor) -> Result<Seq<u8>, ReadFa
 }
 
 /// A code (JVMS 4.7.3).
-#[tactic(auto, unfolding(crate::specs::AttrReading::code_at))]
+#[tactic(auto, unfolding(crate::specs::Steps::AttrReading::code_at))]
 fn read_code(
     alloc: Global,
     cursor: &mut Cursor,
@@ -246,7 +246,7 @@ fn read_code(
 }
 
 /// The code that is all of a content.
-#[tactic(auto, unfolding(crate::specs::AttrReading::whole_code_at))]
+#[tactic(auto, unfolding(crate::specs::Steps::AttrReading::whole_code_at))]
 fn read_whole_code(
     alloc: Global,
     content: &[u8],
@@ -264,7 +264,7 @@ fn read_whole_code(
 }
 
 /// What stands in an attribute.
-#[tactic(auto, unfolding(crate::specs::AttrReading::body_at))]
+#[tactic(auto, unfolding(crate::specs::Steps::AttrReading::body_at))]
 fn read_body(
     alloc: Global,
     content: &[u8],
@@ -283,7 +283,7 @@ fn read_body(
 }
 
 /// An attribute of this owner in a file of this major version.
-#[tactic(auto, unfolding(crate::specs::AttrReading::attr_at))]
+#[tactic(auto, unfolding(crate::specs::Steps::AttrReading::attr_at))]
 fn read_any(
     alloc: Global,
     cursor: &mut Cursor,

@@ -1,4 +1,4 @@
-ghost use Rattle.std.specs.Prelude.{◌≡◌, ◌<◌, ◌^◌, ◌∷◌, ◌++◌, length, Err, Some, OnOk, IfOk};
+ghost use Rattle.std.specs.Prelude.{◌≡◌, ◌<◌, ◌^◌, ◌++◌, length, Err, Some, OnOk, IfOk};
 ghost use Rattle.std.specs.List.{flat_map, AllByRecursion};
 ghost use Rattle.jv_pool.specs.PoolText.{u2, u4};
 ghost use Rattle.jv_attr.specs.FrameText.{type_text, types_text, parts_text, frame_text, HasFewParts, HasFewTypes, frames_text, AreFewFrames};

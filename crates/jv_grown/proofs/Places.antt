@@ -1,7 +1,6 @@
 -- Each item stands once, when one that wasn't there comes behind.
-use Rattle.std.proofs.Common.{◌≡◌, ℕ, zero, suc, ◌+◌, ◌-◌, ◌⊎◌, inl, inr, Bool, true, false, cond, eqb, List, [], ◌∷◌, ◌++◌, length, Some, refl, sym, ap, ◌∙◌, arith}
+use Rattle.std.proofs.Common.{◌≡◌, ℕ, zero, suc, ◌+◌, ◌-◌, ◌⊎◌, inl, inr, Bool, true, false, cond, List, [], ◌∷◌, ◌++◌, length, Some, refl, sym, ap, ◌∙◌, arith}
 use Rattle.std.specs.List.{slice_get}
-use Rattle.std.proofs.lemmas.Bool.{ne_eqb}
 use Rattle.std.proofs.lemmas.Option.{none-some}
 use Rattle.jv_pool.specs.declared.item.PoolItem.{PoolItem}
 use Rattle.jv_pool.specs.declared.item.PoolItem.TheVariants as items
@@ -9,13 +8,8 @@ use Rattle.jv_pool.specs.Lookups.{item_at}
 use Rattle.jv_pool.specs.PoolText.{is_hole, is_wide}
 use Rattle.jv_pool.specs.Adding.{HasItem, slots_of}
 use Rattle.jv_read.proofs.Fronts.{some_is}
+use Rattle.jv_pool.proofs.AddingLaws.{item_at-suc}
 use Rattle.jv_grown.specs.Once.{AreOnce}
-
-item_at-suc : (xs : List PoolItem) (j : ℕ) → item_at xs (suc j) ≡ slice_get xs j
-item_at-suc xs j =
-    let k : suc j - 1 ≡ j = omega arith in
-    let z : eqb (suc j) 0 ≡ false = ne_eqb (suc j) 0 (λ e. omega (arith, e)) in
-    rw (z, k) refl
 
 -- where the item of an index stands
 record Stands (xs : List PoolItem) (i : ℕ) (x : PoolItem) : Type 0 where

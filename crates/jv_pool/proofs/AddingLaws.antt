@@ -3,94 +3,43 @@ use Rattle.std.proofs.Common.{◌≡◌, ℕ, zero, suc, ◌+◌, ◌-◌, Bool,
 use Rattle.std.specs.Prelude.{option_map}
 use Rattle.std.specs.Option.{option_copied}
 use Rattle.std.specs.List.{slice_get}
-use Rattle.std.proofs.lemmas.Bool.{ne_eqb}
+use Rattle.std.specs.declared.cmp.Ordering.TheVariants.{Equal}
+use Rattle.std.specs.Ordering.{is_eq}
+use Rattle.std.proofs.lemmas.Bool.{and_parts, false_from_ne_true, ne_eqb}
 use Rattle.std.proofs.lemmas.Option.{none-some}
-use Rattle.std.specs.declared.cmp.Ordering.{Ordering}
-use Rattle.std.specs.declared.cmp.Ordering.TheVariants.{Less, Equal, Greater}
-use Rattle.std.specs.Ordering.{nat_cmp, ordering_then, is_eq}
-use Rattle.std.specs.Cmp.{IsTotalOrder}
-use Rattle.std.proofs.lemmas.Cmp.{tied_itself}
-use Rattle.std.proofs.lemmas.Map.Lookups.{exact_unsigned, exact_signed, exact_bytes}
 use Rattle.std.specs.Map.{lookup}
 use Rattle.std.specs.BTreeMap.{BTreeMap, get, is_at, Updates, IsEmpty, IsUnchanged}
-use Rattle.jv_pool.specs.contracts.item.PoolItemOrd.TheImpl.Laws as item_laws
 use Rattle.jv_pool.specs.declared.item.PoolItem.{PoolItem}
 use Rattle.jv_pool.specs.declared.item.PoolItem.TheVariants as items
 use Rattle.jv_pool.specs.Lookups.{item_at}
 use Rattle.jv_pool.specs.PoolText.{is_wide, is_hole}
 use Rattle.jv_pool.specs.Adding.{slots_of, HasItem, item_cmp, is_same, place_of, HasPlaces}
-use Rattle.jv_pool.proofs.Fronts.{some_is}
-use Rattle.jv_pool.proofs.Units.{both_true}
+use Rattle.jv_equality.proofs.Exact.{is_eq-Equal}
+use Rattle.jv_read.proofs.Fronts.{some_is}
+use Rattle.jv_pool.proofs.ItemsTold.{items_tied}
 
--- ---- the order of items
-
-item_total : IsTotalOrder item_cmp
-item_total = item_laws.total-law
-
-then_equal : (a b : Ordering) → ordering_then a b ≡ Equal → (a ≡ Equal) × (b ≡ Equal)
-then_equal Equal b e = (refl, e)
-then_equal Less b e = absurd cc
-then_equal Greater b e = absurd cc
-
--- items that compare as equal are one
-item_exact : (x y : PoolItem) → item_cmp x y ≡ Equal → x ≡ y
-item_exact (items.Utf8 a) (items.Utf8 b) e = ap (λ (t : List ℕ). items.Utf8 t) (exact_bytes a b e)
-item_exact (items.Integer a) (items.Integer b) e = ap items.Integer (exact_signed a b e)
-item_exact (items.Float a) (items.Float b) e = ap items.Float (exact_unsigned a b e)
-item_exact (items.Long a) (items.Long b) e = ap items.Long (exact_signed a b e)
-item_exact (items.Double a) (items.Double b) e = ap items.Double (exact_unsigned a b e)
-item_exact (items.Class a) (items.Class b) e = ap items.Class (exact_unsigned a b e)
-item_exact (items.Text a) (items.Text b) e = ap items.Text (exact_unsigned a b e)
-item_exact (items.Field a b) (items.Field c d) e =
-    let h = then_equal (nat_cmp a c) (nat_cmp b d) e in
-    ap (λ (n : ℕ). items.Field n b) (exact_unsigned a c h.0) ∙ ap (λ (n : ℕ). items.Field c n) (exact_unsigned b d h.1)
-item_exact (items.Method a b) (items.Method c d) e =
-    let h = then_equal (nat_cmp a c) (nat_cmp b d) e in
-    ap (λ (n : ℕ). items.Method n b) (exact_unsigned a c h.0) ∙ ap (λ (n : ℕ). items.Method c n) (exact_unsigned b d h.1)
-item_exact (items.InterfaceMethod a b) (items.InterfaceMethod c d) e =
-    let h = then_equal (nat_cmp a c) (nat_cmp b d) e in
-    ap (λ (n : ℕ). items.InterfaceMethod n b) (exact_unsigned a c h.0) ∙ ap (λ (n : ℕ). items.InterfaceMethod c n) (exact_unsigned b d h.1)
-item_exact (items.NameAndType a b) (items.NameAndType c d) e =
-    let h = then_equal (nat_cmp a c) (nat_cmp b d) e in
-    ap (λ (n : ℕ). items.NameAndType n b) (exact_unsigned a c h.0) ∙ ap (λ (n : ℕ). items.NameAndType c n) (exact_unsigned b d h.1)
-item_exact (items.MethodHandle a b) (items.MethodHandle c d) e =
-    let h = then_equal (nat_cmp a c) (nat_cmp b d) e in
-    ap (λ (n : ℕ). items.MethodHandle n b) (exact_unsigned a c h.0) ∙ ap (λ (n : ℕ). items.MethodHandle c n) (exact_unsigned b d h.1)
-item_exact (items.MethodType a) (items.MethodType b) e = ap items.MethodType (exact_unsigned a b e)
-item_exact (items.InvokeDynamic a b) (items.InvokeDynamic c d) e =
-    let h = then_equal (nat_cmp a c) (nat_cmp b d) e in
-    ap (λ (n : ℕ). items.InvokeDynamic n b) (exact_unsigned a c h.0) ∙ ap (λ (n : ℕ). items.InvokeDynamic c n) (exact_unsigned b d h.1)
-item_exact items.Hole items.Hole e = refl
-item_exact _ _ e = absurd cc
-
-is_eq-Equal : (o : Ordering) → is_eq o ≡ true → o ≡ Equal
-is_eq-Equal Equal e = refl
-is_eq-Equal Less e = absurd cc
-is_eq-Equal Greater e = absurd cc
+-- ---- items that are one
 
 same_is : (x y : PoolItem) → is_same x y ≡ true → x ≡ y
-same_is x y e = item_exact x y (is_eq-Equal (item_cmp x y) (both_true (not (is_hole x)) (is_eq (item_cmp x y)) e).1)
+same_is x y e = (items_tied x y).0 (is_eq-Equal (item_cmp x y) (and_parts (not (is_hole x)) (is_eq (item_cmp x y)) e).1)
 
 is_same-itself : (x : PoolItem) → is_hole x ≡ false → is_same x x ≡ true
 is_same-itself x whole =
-    let tied : item_cmp x x ≡ Equal = tied_itself item_total x in
+    let tied : item_cmp x x ≡ Equal = (items_tied x x).1 refl in
     rw (whole, tied) refl
-
-false_if : (b : Bool) → (b ≡ true → ⊥) → b ≡ false
-false_if true h = absurd (h refl)
-false_if false h = refl
 
 -- no item is a hole in this sense
 not_hole : (x : PoolItem) → is_same x items.Hole ≡ false
-not_hole x = false_if (is_same x items.Hole) (λ e.
-    let h = both_true (not (is_hole x)) (is_eq (item_cmp x items.Hole)) e in
+not_hole x = false_from_ne_true (is_same x items.Hole) (λ e.
+    let h = and_parts (not (is_hole x)) (is_eq (item_cmp x items.Hole)) e in
     let is = same_is x items.Hole e in
     let t : not (is_hole items.Hole) ≡ true = subst (λ (y : PoolItem). not (is_hole y) ≡ true) is h.0 in
     absurd cc)
 
 -- ---- where an item stands
 
-item_at-suc : (all : List PoolItem) (j : ℕ) → item_at all (suc j) ≡ slice_get all j
+-- an index that isn't 0 is that of the item at the place before it
+pub item_at-suc : (all : List PoolItem) (j : ℕ) → item_at all (suc j) ≡ slice_get all j
 item_at-suc all j =
     let k : suc j - 1 ≡ j = omega arith in
     let z : eqb (suc j) 0 ≡ false = ne_eqb (suc j) 0 (λ e. omega (arith, e)) in
@@ -227,14 +176,14 @@ places_grow all item old new i has whole absent at updates q =
 
     by : (b : Bool) → is_at (item_cmp item) q ≡ b → cond b (Some i) (get item_cmp old q) ≡ place_of (all ++ slots_of item) q
     by true e =
-        let is : item ≡ q = item_exact item q (is_eq-Equal (item_cmp item q) e) in
+        let is : item ≡ q = (items_tied item q).0 (is_eq-Equal (item_cmp item q) e) in
         let here : place_of (all ++ slots_of item) item ≡ Some i =
         new_first all item whole before ∙ ap (λ (k : ℕ). Some k) (sym at) in
         subst (λ (x : PoolItem). some_index i ≡ place_of (all ++ slots_of item) x) is (sym here)
     by false e =
-        let apart : is_same q item ≡ false = false_if (is_same q item) (λ s.
+        let apart : is_same q item ≡ false = false_from_ne_true (is_same q item) (λ s.
         let is = same_is q item s in
-        let t : is_eq (item_cmp item q) ≡ true = ap is_eq (subst (λ (x : PoolItem). item_cmp item x ≡ Equal) (sym is) (tied_itself item_total item)) in
+        let t : is_eq (item_cmp item q) ≡ true = ap is_eq (subst (λ (x : PoolItem). item_cmp item x ≡ Equal) (sym is) ((items_tied item item).1 refl)) in
         true_false (sym t ∙ e)) in
         let none_there : place_of (slots_of item) q ≡ None = slots_place item q ∙ ap (λ (b : Bool). cond b some_one None) apart in
         has q ∙ sym (place_append all (slots_of item) q ∙ rw none_there (or_none (place_of all q)))

@@ -13,9 +13,9 @@ use Rattle.jv_pool.specs.declared.item.PoolItem.TheVariants as items
 use Rattle.jv_pool.specs.declared.fields.Fields.{Fields}
 use Rattle.jv_pool.specs.declared.fields.Fields.TheVariants.{Index, Word, Words, Pair, Handle}
 use Rattle.jv_pool.specs.PoolText.{u2, item_text, IsItem, is_wide, is_hole, IsShort}
-use Rattle.jv_pool.specs.Reading.{◌>>=◌, u1_at, bytes_at}
-use Rattle.jv_pool.specs.PoolReading.{fields_at, item_of, is_spelled, spelled_at, kept_at, content_at, item_at}
-use Rattle.jv_pool.proofs.Fronts.{bind_some, bind_is, given_as, past_true, u1_takes, u1_again, bytes_take, bytes_again}
+use Rattle.jv_read.specs.Reading.{◌>>=◌, u1_at, bytes_at}
+use Rattle.jv_pool.specs.Steps.PoolReading.{fields_at, item_of, is_spelled, spelled_at, kept_at, content_at, next_item_at}
+use Rattle.jv_read.proofs.Fronts.{bind_some, bind_is, given_as, past_true, u1_takes, u1_again, bytes_take, bytes_again}
 use Rattle.jv_pool.proofs.Units.{spelled_units, units_spelled}
 use Rattle.jv_pool.proofs.Widths.{fields_text, AreFitting, parts_of, fields_take, fields_again, tag_of, item_of_makes}
 
@@ -95,8 +95,8 @@ slots_are (items.InvokeDynamic bootstrap pair) = refl
 slots_are items.Hole = refl
 
 -- an item that is read is spelled so, and it is known whether it takes two indices
-pub item_takes : (bytes : List ℕ) (x : (PoolItem × Bool) × List ℕ) → item_at bytes ≡ Some x → TakesItem bytes x.0.0 x.1 × (is_wide x.0.0 ≡ x.0.1)
-unfolding item_at takes_two
+pub item_takes : (bytes : List ℕ) (x : (PoolItem × Bool) × List ℕ) → next_item_at bytes ≡ Some x → TakesItem bytes x.0.0 x.1 × (is_wide x.0.0 ≡ x.0.1)
+unfolding next_item_at takes_two
 item_takes bytes x e =
     let a = bind_some (u1_at bytes) (λ tag. row_of nat_cmp tag.0 pool_tag_rows >>= λ row. fields_at row.parts tag.1 >>= λ fields. content_at tag.0 fields.0 fields.1 >>= λ item. Some ((item.0, eqb row.slots 2), item.1)) x e in
     let b = bind_some (row_of nat_cmp a.0.0 pool_tag_rows) (λ row. fields_at row.parts a.0.1 >>= λ fields. content_at a.0.0 fields.0 fields.1 >>= λ item. Some ((item.0, eqb row.slots 2), item.1)) x a.2 in
@@ -113,8 +113,8 @@ item_takes bytes x e =
 
 -- an item of a tag is read again, whatever follows
 again_by : (tag : ℕ) (row : TagForm) (fields : Fields) (item : PoolItem) (rest after : List ℕ) → row_of nat_cmp tag pool_tag_rows ≡ Some row → row.parts ≡ parts_of fields → AreFitting fields
-    → content_at tag fields rest ≡ Some (item, after) → item_at (tag ∷ (fields_text fields ++ rest)) ≡ Some ((item, eqb row.slots 2), after)
-unfolding item_at
+    → content_at tag fields rest ≡ Some (item, after) → next_item_at (tag ∷ (fields_text fields ++ rest)) ≡ Some ((item, eqb row.slots 2), after)
+unfolding next_item_at
 again_by tag row fields item rest after is_row widths fits content =
     let numbers : fields_at row.parts (fields_text fields ++ rest) ≡ Some (fields, rest) = ap (λ (p : List ℕ). fields_at p (fields_text fields ++ rest)) widths ∙ fields_again fields rest fits in
     bind_is (u1_at (tag ∷ (fields_text fields ++ rest))) (λ t. row_of nat_cmp t.0 pool_tag_rows >>= λ r. fields_at r.parts t.1 >>= λ f. content_at t.0 f.0 f.1 >>= λ i. Some ((i.0, eqb r.slots 2), i.1)) (tag, fields_text fields ++ rest) (u1_again tag (fields_text fields ++ rest))
@@ -133,10 +133,10 @@ low_fits : (n : ℕ) → n % 2 ^ 32 < 2 ^ 32
 low_fits n = mod_below n (2 ^ 32) (omega arith)
 
 -- an item is read again, whatever follows
-pub item_again : (item : PoolItem) (rest : List ℕ) → IsItem item → IsShort item → is_hole item ≡ false → item_at (item_text item ++ rest) ≡ Some ((item, is_wide item), rest)
+pub item_again : (item : PoolItem) (rest : List ℕ) → IsItem item → IsShort item → is_hole item ≡ false → next_item_at (item_text item ++ rest) ≡ Some ((item, is_wide item), rest)
 unfolding content_at kept_at item_of spelled_at
 item_again (items.Utf8 bytes) rest fits short whole =
-    ap item_at (ap (λ (r : List ℕ). 1 ∷ r) (append_assoc (u2 (length bytes)) bytes rest))
+    ap next_item_at (ap (λ (r : List ℕ). 1 ∷ r) (append_assoc (u2 (length bytes)) bytes rest))
     ∙ again_by 1 (record { tag = 1; parts = 2 ∷ []; slots = 1 }) (Index (length bytes)) (items.Utf8 bytes) (bytes ++ rest) rest refl refl short
     (let p = units_spelled bytes fits.0 fits.1 in
     bind_is (bytes_at (length bytes) (bytes ++ rest)) (λ text. cond (is_spelled text.0) (Some (items.Utf8 text.0, text.1)) None) (bytes, rest) (bytes_again bytes rest (length bytes) refl)

@@ -1,8 +1,8 @@
 pub mod Texts
 pub mod Loops
-pub mod Fronts
 pub mod Units
 pub mod Widths
 pub mod ItemReading
 pub mod PoolLaws
+pub mod ItemsTold
 pub mod AddingLaws

@@ -1,25 +1,12 @@
 -- Reading items one after the other, as a loop does.
-use Rattle.std.proofs.Common.{◌≡◌, ℕ, suc, ◌-◌, ◌+◌, ◌≤◌, ◌<◌, List, [], ◌∷◌, ◌++◌, Bool, true, false, Option, Some, None, refl, sym, ap, ◌∙◌, append_assoc, arith}
+use Rattle.std.proofs.Common.{◌≡◌, ℕ, suc, ◌-◌, ◌+◌, ◌≤◌, ◌<◌, List, [], ◌∷◌, ◌++◌, Bool, true, false, Option, Some, None, refl, sym, ap, ◌∙◌, arith}
 use Rattle.std.proofs.lemmas.List.{append-nil}
 use Rattle.jv_pool.specs.declared.item.PoolItem.{PoolItem}
-use Rattle.jv_pool.specs.declared.fault.BadPool.{BadPool}
-use Rattle.jv_pool.specs.declared.fault.BadPool.TheVariants as faults
-use Rattle.jv_pool.specs.Reading.{◌>>=◌, Fails}
-use Rattle.jv_pool.specs.PoolReading.{slot_at, items_at}
-
--- what was read before, and what is still read
-abbrev pub with_front : {A : Type 0} → List A → Option (List A × List ℕ) → Option (List A × List ℕ)
-with_front front read = read >>= λ x. Some (front ++ x.0, x.1)
-
--- nothing was read yet
-pub front_none : {A : Type 0} (front : List A) (read : Option (List A × List ℕ)) → front ≡ [] → with_front front read ≡ read
-front_none {A} front (Some x) e = ap (λ (f : List A). Some (f ++ x.0, x.1)) e
-front_none front None e = refl
-
--- one part more in front of the rest is one more at the end of what was read
-pub regroup : {A : Type 0} (front : List A) (a : A) (read : Option (List A × List ℕ)) → with_front front (read >>= λ x. Some (a ∷ x.0, x.1)) ≡ with_front (front ++ a ∷ []) read
-regroup {A} front a (Some x) = ap (λ (parts : List A). Some (parts, x.1)) (simp append_assoc)
-regroup front a None = refl
+use Rattle.jv_read.specs.declared.fault.ReadFault.{ReadFault}
+use Rattle.jv_read.specs.declared.fault.ReadFault.TheVariants as faults
+use Rattle.jv_read.specs.Reading.{Fails}
+use Rattle.jv_read.proofs.Loops.{with_front, front_none, regroup}
+use Rattle.jv_pool.specs.Steps.PoolReading.{slot_at, items_at}
 
 -- nothing was read yet
 pub items_begin : (front : List PoolItem) (count : ℕ) (bytes : List ℕ) → front ≡ [] → with_front front (items_at (count - 0) false bytes) ≡ items_at count false bytes
@@ -38,7 +25,7 @@ item_goes_on front count i wide after_wide bytes after item total lt h so_far =
     sym one ∙ so_far
 
 -- an item that is not read ends it all
-pub item_ends : (error : BadPool) (front : List PoolItem) (count i : ℕ) (wide : Bool) (bytes : List ℕ) (total : Option (List PoolItem × List ℕ)) → i < count
+pub item_ends : (error : ReadFault) (front : List PoolItem) (count i : ℕ) (wide : Bool) (bytes : List ℕ) (total : Option (List PoolItem × List ℕ)) → i < count
     → Fails error (slot_at wide bytes) → with_front front (items_at (count - i) wide bytes) ≡ total → Fails error total
 unfolding items_at
 item_ends faults.Memory front count i wide bytes total lt h so_far = tt

@@ -1,18 +1,15 @@
 -- A constant pool that is read is spelled so, and what is spelled so is read.
-use Rattle.std.proofs.Common.{◌≡◌, ℕ, zero, suc, ◌+◌, ◌-◌, ◌^◌, ◌<◌, Bool, true, false, cond, eqb, IsTrue, List, [], ◌∷◌, ◌++◌, length, Option, Some, None, Result, Ok, Err, refl, sym, ap, subst, ◌∙◌, append_assoc, arith, IfOk}
+use Rattle.std.proofs.Common.{◌≡◌, ℕ, zero, suc, ◌+◌, ◌-◌, ◌^◌, ◌<◌, Bool, true, false, cond, eqb, IsTrue, List, [], ◌∷◌, ◌++◌, length, Option, Some, None, refl, sym, ap, subst, ◌∙◌, append_assoc, arith}
 use Rattle.std.specs.List.{flat_map, list_all, AllByRecursion}
-use Rattle.std.proofs.lemmas.Bool.{eqb-false, ne_eqb}
+use Rattle.std.proofs.lemmas.Bool.{and_parts, eqb-false, ne_eqb}
 use Rattle.std.proofs.lemmas.List.{append-nil}
 use Rattle.std.proofs.lemmas.List.Concat.{flat_map-cons}
 use Rattle.jv_pool.specs.declared.item.PoolItem.{PoolItem}
 use Rattle.jv_pool.specs.declared.item.PoolItem.TheVariants.{Hole}
-use Rattle.jv_pool.specs.declared.fault.BadPool.{BadPool}
-use Rattle.jv_pool.specs.declared.fault.BadPool.TheVariants.{Bad, Memory}
 use Rattle.jv_pool.specs.PoolText.{u2, item_text, pool_text, IsItem, is_wide, is_hole, HasHoles, is_linked, IsPool, IsShort, IsPoolText, BeginsWithPool}
-use Rattle.jv_pool.specs.Reading.{◌>>=◌, Gives, number_at}
-use Rattle.jv_pool.specs.PoolReading.{slot_at, items_at, linked_at, pool_at}
-use Rattle.jv_pool.proofs.Fronts.{bind_some, bind_is, given_as, some_is, past_false, past_true, joined, number_takes, number_again}
-use Rattle.jv_pool.proofs.Units.{both_true}
+use Rattle.jv_read.specs.Reading.{◌>>=◌, number_at}
+use Rattle.jv_pool.specs.Steps.PoolReading.{slot_at, items_at, linked_at, pool_at}
+use Rattle.jv_read.proofs.Fronts.{bind_some, bind_is, given_as, some_is, past_false, past_true, joined, number_takes, number_again}
 use Rattle.jv_pool.proofs.ItemReading.{item_takes, item_again}
 
 -- ---- the item of an index
@@ -90,7 +87,7 @@ items_again (item ∷ items) wide rest each short holes =
 linked_each : (all items : List PoolItem) → list_all (is_linked all) items ≡ true → AllByRecursion (λ item. IsTrue (is_linked all item)) items
 linked_each all [] e = tt
 linked_each all (item ∷ items) e =
-    let t = both_true (is_linked all item) (list_all (is_linked all) items) e in
+    let t = and_parts (is_linked all item) (list_all (is_linked all) items) e in
     (t.0, linked_each all items t.1)
 
 each_linked : (all items : List PoolItem) → AllByRecursion (λ item. IsTrue (is_linked all item)) items → list_all (is_linked all) items ≡ true
@@ -159,18 +156,12 @@ one_reading bytes a b p q = (pools_agree bytes a b [] [] (alone bytes a p) (alon
 pub no_front : (a b : List PoolItem) (front more : List ℕ) → IsPoolText front a → IsPoolText (front ++ more) b → more ≡ []
 no_front a b front more p q = (pools_agree (front ++ more) a b more [] (record { front = front; is_text = p; parts = refl }) (alone (front ++ more) b q)).1
 
--- what the reader answers
-pub is_found : (old new : List ℕ) (r : Result (List PoolItem) BadPool) → Gives (λ (x : List PoolItem). x) r new (pool_at old) → IfOk r (λ items. BeginsWithPool old items new)
-is_found old new (Ok items) h = pool_takes old (items, new) h
-is_found old new (Err e) h = tt
-
-pub is_bad : (old new : List ℕ) (r : Result (List PoolItem) BadPool) → Gives (λ (x : List PoolItem). x) r new (pool_at old) → r ≡ Err Bad → (items : List PoolItem) (rest : List ℕ) → BeginsWithPool old items rest → ⊥
-is_bad old new (Ok x) h e items rest b = absurd cc
-is_bad old new (Err Bad) h e items rest b =
+-- bytes of which nothing was read begin with no pool
+pub is_refused : (bytes : List ℕ) → pool_at bytes ≡ None → (items : List PoolItem) (rest : List ℕ) → BeginsWithPool bytes items rest → ⊥
+is_refused bytes none items rest b =
     let made : List PoolItem × List ℕ = (items, rest) in
-    let found : none_read ≡ Some made = sym h ∙ pool_found old items rest b in
+    let found : none_read ≡ Some made = sym none ∙ pool_found bytes items rest b in
     absurd cc
   where
     none_read : Option (List PoolItem × List ℕ)
     none_read = None
-is_bad old new (Err Memory) h e items rest b = absurd cc

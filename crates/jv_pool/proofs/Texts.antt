@@ -1,7 +1,7 @@
 -- Whether bytes are modified UTF-8, unit by unit.
 use Rattle.std.proofs.Common.{◌≡◌, ℕ, Bool, true, false, cond, eqb, ◌&&◌, List, [], ◌∷◌, drop, length, refl, sym, ap, ◌∙◌, arith}
 use Rattle.std.proofs.lemmas.Bool.{eqb-true}
-use Rattle.jv_pool.specs.PoolReading.{is_one, is_two, is_three, unit_len, is_spelled}
+use Rattle.jv_pool.specs.Steps.PoolReading.{is_one, is_two, is_three, unit_len, is_spelled}
 
 -- ---- one unit after the other
 

@@ -1,43 +1,33 @@
 -- The test of modified UTF-8 passes exactly where the bytes are the text of some units.
 use Rattle.std.proofs.Common.{◌≡◌, ℕ, ◌+◌, ◌-◌, ◌*◌, ◌<◌, ◌≤◌, Bool, true, false, cond, eqb, leb, ltb, ◌&&◌, ◌||◌, List, [], ◌∷◌, ◌++◌, refl, ap, ◌∙◌, ◌⊎◌, inl, inr, arith}
-use Rattle.std.proofs.lemmas.Bool.{eqb-true, eqb-false, eq-eqb, ne_eqb, leb-true, ltb-true, lt-ltb, le-ltb, le-leb}
+use Rattle.std.proofs.lemmas.Bool.{and_parts, or_cases, eqb-true, eqb-false, eq-eqb, ne_eqb, leb-true, ltb-true, lt-ltb, le-ltb, le-leb}
 use Rattle.jv_bytes.specs.Utf8.{GoesOn, IsUnitText, IsText}
-use Rattle.jv_pool.specs.PoolReading.{is_one, goes_on, is_two, is_three, is_spelled}
-
--- both tests passed
-pub both_true : (p q : Bool) → (p && q) ≡ true → (p ≡ true) × (q ≡ true)
-both_true true q e = (refl, e)
-both_true false q e = absurd cc
-
--- one of two tests passed
-pub one_true : (p q : Bool) → (p || q) ≡ true → (p ≡ true) ⊎ (q ≡ true)
-one_true true q e = inl refl
-one_true false q e = inr e
+use Rattle.jv_pool.specs.Steps.PoolReading.{is_one, goes_on, is_two, is_three, is_spelled}
 
 -- ---- what passes is a unit
 
 goes_on_is : (b : ℕ) → goes_on b ≡ true → GoesOn b
 goes_on_is b e =
-    let h = both_true (leb 128 b) (ltb b 192) e in
+    let h = and_parts (leb 128 b) (ltb b 192) e in
     (leb-true 128 b h.0, ltb-true b 192 h.1)
 
 one_is : (a : ℕ) → is_one a ≡ true → IsUnitText (a ∷ []) a
 one_is a e =
-    let h = both_true (leb 1 a) (ltb a 128) e in
+    let h = and_parts (leb 1 a) (ltb a 128) e in
     (leb-true 1 a h.0, ltb-true a 128 h.1, refl)
 
 two_is : (a b : ℕ) → is_two a b ≡ true → IsUnitText (a ∷ b ∷ []) (64 * (a - 192) + (b - 128))
 two_is a b e =
-    let h = both_true (goes_on b) ((eqb a 192 && eqb b 128) || (leb 194 a && ltb a 224)) e in
+    let h = and_parts (goes_on b) ((eqb a 192 && eqb b 128) || (leb 194 a && ltb a 224)) e in
     let on = goes_on_is b h.0 in
-    elim (one_true (eqb a 192 && eqb b 128) (leb 194 a && ltb a 224) h.1) [
+    elim (or_cases (eqb a 192 && eqb b 128) (leb 194 a && ltb a 224) h.1) [
       | inl z ↦
-          let t = both_true (eqb a 192) (eqb b 128) z in
+          let t = and_parts (eqb a 192) (eqb b 128) z in
           let ea = eqb-true a 192 t.0 in
           let eb = eqb-true b 128 t.1 in
           (omega (arith, ea), omega (arith, ea), on, refl, inl (omega (arith, ea, eb)))
       | inr z ↦
-          let t = both_true (leb 194 a) (ltb a 224) z in
+          let t = and_parts (leb 194 a) (ltb a 224) z in
           let la = leb-true 194 a t.0 in
           let ua = ltb-true a 224 t.1 in
           (omega (arith, la), ua, on, refl, inr (omega (arith, la)))
@@ -45,18 +35,18 @@ two_is a b e =
 
 three_is : (a b c : ℕ) → is_three a b c ≡ true → IsUnitText (a ∷ b ∷ c ∷ []) (4096 * (a - 224) + 64 * (b - 128) + (c - 128))
 three_is a b c e =
-    let h = both_true (goes_on b && goes_on c) ((eqb a 224 && leb 160 b) || (leb 225 a && ltb a 240)) e in
-    let g = both_true (goes_on b) (goes_on c) h.0 in
+    let h = and_parts (goes_on b && goes_on c) ((eqb a 224 && leb 160 b) || (leb 225 a && ltb a 240)) e in
+    let g = and_parts (goes_on b) (goes_on c) h.0 in
     let on_b = goes_on_is b g.0 in
     let on_c = goes_on_is c g.1 in
-    elim (one_true (eqb a 224 && leb 160 b) (leb 225 a && ltb a 240) h.1) [
+    elim (or_cases (eqb a 224 && leb 160 b) (leb 225 a && ltb a 240) h.1) [
       | inl z ↦
-          let t = both_true (eqb a 224) (leb 160 b) z in
+          let t = and_parts (eqb a 224) (leb 160 b) z in
           let ea = eqb-true a 224 t.0 in
           let lb = leb-true 160 b t.1 in
           (omega (arith, ea), omega (arith, ea), on_b, on_c, refl, omega (arith, ea, lb))
       | inr z ↦
-          let t = both_true (leb 225 a) (ltb a 240) z in
+          let t = and_parts (leb 225 a) (ltb a 240) z in
           let la = leb-true 225 a t.0 in
           let ua = ltb-true a 240 t.1 in
           (omega (arith, la), ua, on_b, on_c, refl, omega (arith, la))
@@ -91,7 +81,7 @@ spelled_units (a ∷ b ∷ c ∷ more) e =
     three_cases a b c more true h q g k one two three = unit_and (a ∷ []) (b ∷ c ∷ more) a (one_is a h) (one k)
     three_cases a b c more false h true g k one two three = unit_and (a ∷ b ∷ []) (c ∷ more) (64 * (a - 192) + (b - 128)) (two_is a b g) (two k)
     three_cases a b c more false h false g k one two three =
-        let t = both_true (is_three a b c) (is_spelled more) k in
+        let t = and_parts (is_three a b c) (is_spelled more) k in
         unit_and (a ∷ b ∷ c ∷ []) more (4096 * (a - 224) + 64 * (b - 128) + (c - 128)) (three_is a b c t.0) (three t.1)
 
 -- ---- what is a unit passes

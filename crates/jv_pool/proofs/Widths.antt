@@ -1,20 +1,21 @@
 -- The numbers behind an item's tag that are read are spelled so, and what is spelled so is read; and which
 -- item they make.
-use Rattle.std.proofs.Common.{◌≡◌, ℕ, ◌+◌, ◌*◌, ◌/◌, ◌%◌, ◌^◌, ◌<◌, Bool, true, false, cond, eqb, List, [], ◌∷◌, ◌++◌, Option, Some, None, refl, ap, ◌∙◌, ◌⊎◌, inl, inr, append_assoc, arith}
+use Rattle.std.proofs.Common.{◌≡◌, ℕ, ◌+◌, ◌*◌, ◌/◌, ◌%◌, ◌^◌, ◌<◌, Bool, true, false, cond, eqb, List, [], ◌∷◌, ◌++◌, Option, Some, None, refl, sym, ap, ◌∙◌, append_assoc, arith}
 use Rattle.std.specs.Int.{w32, w64, cast_signed}
 use Rattle.std.specs.Cmp.Lexicographic.{pointwise}
 use Rattle.std.proofs.lemmas.Bool.{eqb-true}
 use Rattle.std.proofs.lemmas.Int.{of_z-to_z}
 use Rattle.std.proofs.lemmas.Nat.{div-mul-add, mod-mul-add}
 use borrow.Author.Gap.{read_sfits}
+use Rattle.jv_bytes.specs.Numbers.{number_text}
 use Rattle.jv_pool.specs.declared.item.PoolItem.{PoolItem}
 use Rattle.jv_pool.specs.declared.item.PoolItem.TheVariants as items
 use Rattle.jv_pool.specs.declared.fields.Fields.{Fields}
 use Rattle.jv_pool.specs.declared.fields.Fields.TheVariants.{Index, Word, Words, Pair, Handle}
 use Rattle.jv_pool.specs.PoolText.{u2, u4, u8, item_text, IsItem, is_hole, IsShort}
-use Rattle.jv_pool.specs.Reading.{◌>>=◌, u1_at, number_at}
-use Rattle.jv_pool.specs.PoolReading.{index_at, word_at, words_at, pair_at, handle_at, fields_at, item_of}
-use Rattle.jv_pool.proofs.Fronts.{bind_some, bind_is, given_as, joined, u1_takes, u1_again, number_takes, number_again}
+use Rattle.jv_read.specs.Reading.{◌>>=◌, u1_at, number_at}
+use Rattle.jv_pool.specs.Steps.PoolReading.{index_at, word_at, words_at, pair_at, handle_at, fields_at, item_of}
+use Rattle.jv_read.proofs.Fronts.{bind_some, bind_is, given_as, joined, u1_takes, u1_again, number_takes, number_again}
 
 -- the text of the numbers
 abbrev pub fields_text : Fields → List ℕ
@@ -44,41 +45,46 @@ parts_of (Handle kind member) = 1 ∷ 2 ∷ []
 abbrev pub TakesFields : List ℕ → Fields × List ℕ → Type 0
 TakesFields bytes x = AreFitting x.0 × (bytes ≡ fields_text x.0 ++ x.1)
 
+-- the numbers that are made of one number more
+abbrev made_of : (ℕ → Fields) → ℕ × List ℕ → Option (Fields × List ℕ)
+made_of make x = Some (make x.0, x.1)
+
+-- one number
+one_takes : (n : ℕ) (make : ℕ → Fields) → ((v : ℕ) → v < 256 ^ n → AreFitting (make v)) → ((v : ℕ) → fields_text (make v) ≡ number_text n v)
+    → (bytes : List ℕ) (x : Fields × List ℕ) → (number_at n bytes >>= made_of make) ≡ Some x → TakesFields bytes x
+one_takes n make fits text bytes x e =
+    let a = bind_some (number_at n bytes) (made_of make) x e in
+    let t = number_takes n bytes a.0 a.1 in
+    let made : Fields × List ℕ = (make a.0.0, a.0.1) in
+    given_as (λ (y : Fields × List ℕ). TakesFields bytes y) made x a.2 (fits a.0.0 t.1, t.0 ∙ ap (λ (f : List ℕ). f ++ a.0.1) (sym (text a.0.0)))
+
 index_takes : (bytes : List ℕ) (x : Fields × List ℕ) → index_at bytes ≡ Some x → TakesFields bytes x
 unfolding index_at
-index_takes bytes x e =
-    let a = bind_some (number_at 2 bytes) (λ index. Some (Index index.0, index.1)) x e in
-    let t = number_takes 2 bytes a.0 a.1 in
-    let made : Fields × List ℕ = (Index a.0.0, a.0.1) in
-    given_as (λ (y : Fields × List ℕ). TakesFields bytes y) made x a.2 (t.1, t.0)
+index_takes bytes x e = one_takes 2 Index (λ v lt. lt) (λ v. refl) bytes x e
 
 word_takes : (bytes : List ℕ) (x : Fields × List ℕ) → word_at bytes ≡ Some x → TakesFields bytes x
 unfolding word_at
-word_takes bytes x e =
-    let a = bind_some (number_at 4 bytes) (λ word. Some (Word word.0, word.1)) x e in
-    let t = number_takes 4 bytes a.0 a.1 in
-    let made : Fields × List ℕ = (Word a.0.0, a.0.1) in
-    given_as (λ (y : Fields × List ℕ). TakesFields bytes y) made x a.2 (t.1, t.0)
+word_takes bytes x e = one_takes 4 Word (λ v lt. lt) (λ v. refl) bytes x e
+
+-- two numbers of one width
+two_take : (n : ℕ) (make : ℕ → ℕ → Fields) → ((v w : ℕ) → v < 256 ^ n → w < 256 ^ n → AreFitting (make v w)) → ((v w : ℕ) → fields_text (make v w) ≡ number_text n v ++ number_text n w)
+    → (bytes : List ℕ) (x : Fields × List ℕ) → (number_at n bytes >>= λ v. number_at n v.1 >>= made_of (make v.0)) ≡ Some x → TakesFields bytes x
+two_take n make fits text bytes x e =
+    let a = bind_some (number_at n bytes) (λ v. number_at n v.1 >>= made_of (make v.0)) x e in
+    let b = bind_some (number_at n a.0.1) (made_of (make a.0.0)) x a.2 in
+    let s = number_takes n bytes a.0 a.1 in
+    let t = number_takes n a.0.1 b.0 b.1 in
+    let made : Fields × List ℕ = (make a.0.0 b.0.0, b.0.1) in
+    given_as (λ (y : Fields × List ℕ). TakesFields bytes y) made x b.2
+    (fits a.0.0 b.0.0 s.1 t.1, joined bytes (number_text n a.0.0) (number_text n b.0.0) a.0.1 b.0.1 s.0 t.0 ∙ ap (λ (f : List ℕ). f ++ b.0.1) (sym (text a.0.0 b.0.0)))
 
 words_take : (bytes : List ℕ) (x : Fields × List ℕ) → words_at bytes ≡ Some x → TakesFields bytes x
 unfolding words_at
-words_take bytes x e =
-    let a = bind_some (number_at 4 bytes) (λ high. number_at 4 high.1 >>= λ low. Some (Words high.0 low.0, low.1)) x e in
-    let b = bind_some (number_at 4 a.0.1) (λ low. Some (Words a.0.0 low.0, low.1)) x a.2 in
-    let s = number_takes 4 bytes a.0 a.1 in
-    let t = number_takes 4 a.0.1 b.0 b.1 in
-    let made : Fields × List ℕ = (Words a.0.0 b.0.0, b.0.1) in
-    given_as (λ (y : Fields × List ℕ). TakesFields bytes y) made x b.2 ((s.1, t.1), joined bytes (u4 a.0.0) (u4 b.0.0) a.0.1 b.0.1 s.0 t.0)
+words_take bytes x e = two_take 4 Words (λ v w lt lu. (lt, lu)) (λ v w. refl) bytes x e
 
 pair_takes : (bytes : List ℕ) (x : Fields × List ℕ) → pair_at bytes ≡ Some x → TakesFields bytes x
 unfolding pair_at
-pair_takes bytes x e =
-    let a = bind_some (number_at 2 bytes) (λ first. number_at 2 first.1 >>= λ second. Some (Pair first.0 second.0, second.1)) x e in
-    let b = bind_some (number_at 2 a.0.1) (λ second. Some (Pair a.0.0 second.0, second.1)) x a.2 in
-    let s = number_takes 2 bytes a.0 a.1 in
-    let t = number_takes 2 a.0.1 b.0 b.1 in
-    let made : Fields × List ℕ = (Pair a.0.0 b.0.0, b.0.1) in
-    given_as (λ (y : Fields × List ℕ). TakesFields bytes y) made x b.2 ((s.1, t.1), joined bytes (u2 a.0.0) (u2 b.0.0) a.0.1 b.0.1 s.0 t.0)
+pair_takes bytes x e = two_take 2 Pair (λ v w lt lu. (lt, lu)) (λ v w. refl) bytes x e
 
 handle_takes : (bytes : List ℕ) (x : Fields × List ℕ) → handle_at bytes ≡ Some x → TakesFields bytes x
 unfolding handle_at
@@ -89,11 +95,6 @@ handle_takes bytes x e =
     let t = number_takes 2 a.0.1 b.0 b.1 in
     let made : Fields × List ℕ = (Handle a.0.0 b.0.0, b.0.1) in
     given_as (λ (y : Fields × List ℕ). TakesFields bytes y) made x b.2 (t.1, s ∙ ap (λ (r : List ℕ). a.0.0 ∷ r) t.0)
-
--- what is chosen by a test is one of two
-pub chosen : {A : Type 0} (b : Bool) (x y z : A) → cond b x y ≡ z → (x ≡ z) ⊎ (y ≡ z)
-chosen true x y z e = inl e
-chosen false x y z e = inr e
 
 -- numbers of any widths that are read are spelled so
 pub fields_take : (parts bytes : List ℕ) (x : Fields × List ℕ) → fields_at parts bytes ≡ Some x → TakesFields bytes x
@@ -108,22 +109,28 @@ fields_take parts bytes x e = by (pointwise eqb parts (2 ∷ [])) (pointwise eqb
     by false false false false true e = handle_takes bytes x e
     by false false false false false e = absurd cc
 
--- numbers are read again, whatever follows
+-- one number is read again, whatever follows
+one_again : (n : ℕ) (make : ℕ → Fields) (v : ℕ) (rest : List ℕ) → v < 256 ^ n → (number_at n (number_text n v ++ rest) >>= made_of make) ≡ made_of make (v, rest)
+one_again n make v rest fits = bind_is (number_at n (number_text n v ++ rest)) (made_of make) (v, rest) (number_again n v rest fits)
+
+-- and so are two
+two_again : (n : ℕ) (make : ℕ → ℕ → Fields) (v w : ℕ) (rest : List ℕ) → v < 256 ^ n → w < 256 ^ n
+    → (number_at n ((number_text n v ++ number_text n w) ++ rest) >>= λ x. number_at n x.1 >>= made_of (make x.0)) ≡ made_of (make v) (w, rest)
+two_again n make v w rest fits more =
+    ap (λ (c : List ℕ). number_at n c >>= λ x. number_at n x.1 >>= made_of (make x.0)) (append_assoc (number_text n v) (number_text n w) rest)
+    ∙ bind_is (number_at n (number_text n v ++ (number_text n w ++ rest))) (λ x. number_at n x.1 >>= made_of (make x.0)) (v, number_text n w ++ rest) (number_again n v (number_text n w ++ rest) fits)
+    ∙ one_again n (make v) w rest more
+
+-- numbers of any widths are read again, whatever follows
 pub fields_again : (fields : Fields) (rest : List ℕ) → AreFitting fields → fields_at (parts_of fields) (fields_text fields ++ rest) ≡ Some (fields, rest)
 unfolding fields_at index_at word_at words_at pair_at handle_at
-fields_again (Index n) rest fits = bind_is (number_at 2 (u2 n ++ rest)) (λ index. Some (Index index.0, index.1)) (n, rest) (number_again 2 n rest fits)
-fields_again (Word n) rest fits = bind_is (number_at 4 (u4 n ++ rest)) (λ word. Some (Word word.0, word.1)) (n, rest) (number_again 4 n rest fits)
-fields_again (Words high low) rest fits =
-    ap (λ (b : List ℕ). number_at 4 b >>= λ x. number_at 4 x.1 >>= λ y. Some (Words x.0 y.0, y.1)) (append_assoc (u4 high) (u4 low) rest)
-    ∙ bind_is (number_at 4 (u4 high ++ (u4 low ++ rest))) (λ x. number_at 4 x.1 >>= λ y. Some (Words x.0 y.0, y.1)) (high, u4 low ++ rest) (number_again 4 high (u4 low ++ rest) fits.0)
-    ∙ bind_is (number_at 4 (u4 low ++ rest)) (λ y. Some (Words high y.0, y.1)) (low, rest) (number_again 4 low rest fits.1)
-fields_again (Pair a b) rest fits =
-    ap (λ (c : List ℕ). number_at 2 c >>= λ x. number_at 2 x.1 >>= λ y. Some (Pair x.0 y.0, y.1)) (append_assoc (u2 a) (u2 b) rest)
-    ∙ bind_is (number_at 2 (u2 a ++ (u2 b ++ rest))) (λ x. number_at 2 x.1 >>= λ y. Some (Pair x.0 y.0, y.1)) (a, u2 b ++ rest) (number_again 2 a (u2 b ++ rest) fits.0)
-    ∙ bind_is (number_at 2 (u2 b ++ rest)) (λ y. Some (Pair a y.0, y.1)) (b, rest) (number_again 2 b rest fits.1)
+fields_again (Index n) rest fits = one_again 2 Index n rest fits
+fields_again (Word n) rest fits = one_again 4 Word n rest fits
+fields_again (Words high low) rest fits = two_again 4 Words high low rest fits.0 fits.1
+fields_again (Pair a b) rest fits = two_again 2 Pair a b rest fits.0 fits.1
 fields_again (Handle kind member) rest fits =
     bind_is (u1_at (kind ∷ (u2 member ++ rest))) (λ x. number_at 2 x.1 >>= λ y. Some (Handle x.0 y.0, y.1)) (kind, u2 member ++ rest) (u1_again kind (u2 member ++ rest))
-    ∙ bind_is (number_at 2 (u2 member ++ rest)) (λ y. Some (Handle kind y.0, y.1)) (member, rest) (number_again 2 member rest fits)
+    ∙ one_again 2 (Handle kind) member rest fits
 
 -- ---- the item that they make
 

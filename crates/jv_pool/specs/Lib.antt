@@ -1,5 +1,4 @@
 pub mod PoolText
 pub mod Lookups
-pub mod Reading
-pub mod PoolReading
 pub mod Adding
+pub mod Steps

@@ -1,5 +1,4 @@
 ghost use Rattle.std.specs.Prelude.{◌≡◌};
-ghost use Rattle.jv_pool.specs.declared.fault.BadPool.TheVariants as bad;
 ghost use Rattle.jv_pool.specs.declared.fault.PoolRefusal.TheVariants as refusal;
 ghost use Rattle.jv_pool.specs.declared.fault.WriteRefusal.TheVariants as write;
 
@@ -15,22 +14,6 @@ pub enum BadPool {
     /// Memory is wanting.
     #[error("out of memory")]
     Memory,
-}
-
-impl From<AllocError> for BadPool {
-    ghost from_gives = { λ _ e. e ≡ bad.Memory };
-
-    fn from(_e: AllocError) -> BadPool {
-        BadPool::Memory
-    }
-}
-
-impl<T: Drop> From<AllocFailed<T>> for BadPool {
-    ghost from_gives = { λ _ e. e ≡ bad.Memory };
-
-    fn from(_e: AllocFailed<T>) -> BadPool {
-        BadPool::Memory
-    }
 }
 
 /// Why an item was not added to a constant pool.

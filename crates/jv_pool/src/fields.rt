@@ -1,11 +1,10 @@
 ghost use Rattle.std.specs.Prelude.{◌≡◌, ◌+◌, ◌*◌, ◌^◌};
-ghost use Rattle.jv_pool.specs.Reading.{Gives};
-ghost use Rattle.jv_pool.specs.PoolReading.{fields_at, item_of};
+ghost use Rattle.jv_read.specs.Reading.{Gives};
+ghost use Rattle.jv_pool.specs.Steps.PoolReading.{fields_at, item_of};
 
-use crate::fault::BadPool;
 use crate::item::PoolItem;
-use crate::number::{read_u1, read_u2, read_u4};
 use jv_bytes::Cursor;
+use jv_read::{ReadFault, read_u1, read_u2, read_u4};
 
 /// The numbers behind the tag of an item (JVMS 4.4), by their widths.
 #[derive(Clone, Copy, Debug, PartialEq, Eq)]
@@ -18,8 +17,8 @@ pub enum Fields {
 }
 
 /// The numbers of these widths.
-#[tactic(auto, unfolding(crate::specs::PoolReading::fields_at, crate::specs::PoolReading::index_at, crate::specs::PoolReading::word_at, crate::specs::PoolReading::words_at, crate::specs::PoolReading::pair_at, crate::specs::PoolReading::handle_at))]
-pub fn read_fields(cursor: &mut Cursor, parts: &[u8]) -> Result<Fields, BadPool>
+#[tactic(auto, unfolding(crate::specs::Steps::PoolReading::fields_at, crate::specs::Steps::PoolReading::index_at, crate::specs::Steps::PoolReading::word_at, crate::specs::Steps::PoolReading::words_at, crate::specs::Steps::PoolReading::pair_at, crate::specs::Steps::PoolReading::handle_at))]
+pub fn read_fields(cursor: &mut Cursor, parts: &[u8]) -> Result<Fields, ReadFault>
     ensures { Gives (λ x. x) result cursor.new (fields_at parts.now cursor.old) }
 {
     if parts == [2].as_slice() {
@@ -33,7 +32,7 @@ pub fn read_fields(cursor: &mut Cursor, parts: &[u8]) -> Result<Fields, BadPool>
     } else if parts == [1, 2].as_slice() {
         Ok(Fields::Handle(read_u1(cursor)?, read_u2(cursor)?))
     } else {
-        Err(BadPool::Bad)
+        Err(ReadFault::Bad)
     }
 }
 
@@ -45,7 +44,7 @@ fn bits_of(high: u32, low: u32) -> u64
 }
 
 /// The item of a tag with these numbers. A text has more than its numbers, and is none.
-#[tactic(auto, unfolding(crate::specs::PoolReading::item_of))]
+#[tactic(auto, unfolding(crate::specs::Steps::PoolReading::item_of))]
 pub fn item_of(tag: u8, fields: Fields) -> Option<PoolItem>
     ensures { result ≡ item_of tag fields }
 {

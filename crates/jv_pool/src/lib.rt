@@ -4,8 +4,8 @@
 mod fault;
 mod fields;
 mod item;
+mod laws;
 mod link;
-mod number;
 mod pool;
 mod pool_writer;
 mod reader;
@@ -14,6 +14,7 @@ mod write;
 
 pub use fault::{BadPool, PoolRefusal, WriteRefusal};
 pub use item::PoolItem;
+pub use laws::items_are_told_apart;
 pub use pool::Pool;
 pub use pool_writer::PoolWriter;
 pub use reader::{one_pool_text, read_pool};

@@ -1,5 +1,5 @@
 ghost use Rattle.std.specs.Prelude.{◌≡◌};
-ghost use Rattle.std.specs.Option.{option_copied, option_map};
+ghost use Rattle.std.specs.Option.{option_copied};
 ghost use Rattle.jv_pool.specs.Lookups.{item_at, text_at, class_name_at, name_and_type_at, member_at};
 
 use crate::item::PoolItem;

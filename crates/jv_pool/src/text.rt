@@ -1,5 +1,5 @@
 ghost use Rattle.std.specs.Prelude.{◌≡◌, ◌≤◌, length};
-ghost use Rattle.jv_pool.specs.PoolReading.{is_one, goes_on, is_two, is_three, unit_len, is_spelled};
+ghost use Rattle.jv_pool.specs.Steps.PoolReading.{is_one, goes_on, is_two, is_three, unit_len, is_spelled};
 
 /// Whether this byte spells a unit alone.
 fn is_one(a: u8) -> bool
@@ -30,7 +30,7 @@ fn is_three(a: u8, b: u8, c: u8) -> bool
 }
 
 /// The length of the unit's spelling that the bytes begin with, or 0 where they begin with none.
-#[tactic(auto, unfolding(crate::specs::PoolReading::unit_len))]
+#[tactic(auto, unfolding(crate::specs::Steps::PoolReading::unit_len))]
 fn unit_len(bytes: &[u8]) -> usize
     ensures len { result ≡ unit_len bytes.now }
     ensures within { result ≤ length bytes.now }

@@ -1,7 +1,7 @@
 -- Each step of the loop, by the lemmas on reading items one after the other.
 use Rattle.std.proofs.Common.{false}
 use Rattle.std.proofs.lemmas.Result.{err_from_is_err_and}
-use Rattle.jv_pool.specs.PoolReading.{items_at}
+use Rattle.jv_pool.specs.Steps.PoolReading.{items_at}
 use Rattle.jv_pool.proofs.Loops.{item_goes_on, item_ends, items_are_done, items_are_cut}
 use Rattle.jv_pool.proofs.reader.read_items.Goals as goal
 

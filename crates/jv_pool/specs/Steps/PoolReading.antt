@@ -11,7 +11,7 @@ use Rattle.jv_pool.specs.declared.item.PoolItem.TheVariants as items
 use Rattle.jv_pool.specs.declared.fields.Fields.{Fields}
 use Rattle.jv_pool.specs.declared.fields.Fields.TheVariants.{Index, Word, Words, Pair, Handle}
 use Rattle.jv_pool.specs.PoolText.{is_linked}
-use Rattle.jv_pool.specs.Reading.{◌>>=◌, u1_at, u2_at, u4_at, bytes_at}
+use Rattle.jv_read.specs.Reading.{◌>>=◌, u1_at, u2_at, u4_at, bytes_at}
 
 -- ---- modified UTF-8
 
@@ -133,8 +133,8 @@ content_at tag (Pair a b) bytes = kept_at tag (Pair a b) bytes
 content_at tag (Handle kind member) bytes = kept_at tag (Handle kind member) bytes
 
 -- an item, and whether it takes two indices
-unfoldable pub item_at : List ℕ → Option ((PoolItem × Bool) × List ℕ)
-item_at bytes = do
+unfoldable pub next_item_at : List ℕ → Option ((PoolItem × Bool) × List ℕ)
+next_item_at bytes = do
   tag ← u1_at bytes
   row ← row_of nat_cmp tag.0 pool_tag_rows
   fields ← fields_at row.parts tag.1
@@ -144,7 +144,7 @@ item_at bytes = do
 -- the item of the next index, which is a hole where the item before it takes two
 unfoldable pub slot_at : Bool → List ℕ → Option ((PoolItem × Bool) × List ℕ)
 slot_at true bytes = Some ((items.Hole, false), bytes)
-slot_at false bytes = item_at bytes
+slot_at false bytes = next_item_at bytes
 
 -- the items of as many indices, behind an item that takes this one too or doesn't
 unfoldable pub items_at : ℕ → Bool → List ℕ → Option (List PoolItem × List ℕ)
