@@ -2,6 +2,5 @@ pub mod Conditions
 pub mod CoreClasses
 pub mod Initialisers
 pub mod Members
-pub mod Renumbering
 pub mod RightReferences
 pub mod StandIn

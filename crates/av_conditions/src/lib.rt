@@ -4,7 +4,6 @@
 
 mod core_classes;
 mod initialisers;
-mod laws;
 mod members;
 mod operands;
 mod types;
@@ -12,6 +11,5 @@ mod wrong;
 
 pub use core_classes::is_as_core;
 pub use initialisers::initialisers_of;
-pub use laws::subtypes_agree;
 pub use members::{resolved_call, resolved_field};
 pub use wrong::{first_wrong, is_right_insn};

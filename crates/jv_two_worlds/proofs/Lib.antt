@@ -1,0 +1,7 @@
+mod Classes
+mod Supertypes
+mod Members
+mod Finding
+mod Inheriting
+mod DepthFirst
+mod Resolving

@@ -1,0 +1,11 @@
+//! The law of two worlds: where the classes of a world, with all above them, stand in another one under other
+//! numbers, with the same shapes, the two agree on supertypes, resolution, access, overriding and selection.
+#![tactic(auto)]
+
+mod hierarchy;
+mod resolution;
+
+pub use hierarchy::{classes_agree, subtypes_agree, superclasses_agree};
+pub use resolution::{
+    fields_resolve_alike, interface_methods_resolve_alike, methods_resolve_alike,
+};
