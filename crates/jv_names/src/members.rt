@@ -77,14 +77,8 @@ pub fn field_at(alloc: Global, pool: &Pool, index: u16) -> Result<FieldRef, Read
     let Some((name, desc)) = texts_at(pool, pair) else {
         return Err(ReadFault::Bad);
     };
-    let class = match class_at(alloc, pool, class) {
-        Ok(class) => class,
-        Err(e) => return Err(e),
-    };
-    let desc = match field_type(alloc, desc) {
-        Ok(desc) => desc,
-        Err(e) => return Err(e),
-    };
+    let class = class_at(alloc, pool, class)?;
+    let desc = field_type(alloc, desc)?;
     let name = Name::from_slice(alloc, name)?;
     Ok(FieldRef { class, name, desc })
 }
@@ -100,14 +94,8 @@ pub fn method_at(alloc: Global, pool: &Pool, index: u16) -> Result<MethodRef, Re
     let Some((name, desc)) = texts_at(pool, pair) else {
         return Err(ReadFault::Bad);
     };
-    let class = match type_at(alloc, pool, class) {
-        Ok(class) => class,
-        Err(e) => return Err(e),
-    };
-    let desc = match method_type(alloc, desc) {
-        Ok(desc) => desc,
-        Err(e) => return Err(e),
-    };
+    let class = type_at(alloc, pool, class)?;
+    let desc = method_type(alloc, desc)?;
     let name = Name::from_slice(alloc, name)?;
     Ok(MethodRef {
         class,
