@@ -1,5 +1,5 @@
 -- Why nothing is found: what would be found is found by a callee.
-use Rattle.std.proofs.Common.{◌≡◌, ℕ, List}
+use Rattle.std.proofs.Common.{ℕ, List}
 use Rattle.jv_types.specs.declared.desc.PrimType.{PrimType}
 use Rattle.jv_types.specs.declared.desc.RefType.{RefType}
 use Rattle.jv_types.specs.declared.desc.Desc.TheVariants as descs

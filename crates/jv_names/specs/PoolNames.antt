@@ -1,5 +1,5 @@
 -- The names and descriptors that the items of a constant pool keep (JVMS 4.4).
-use Rattle.std.specs.Prelude.{◌≡◌, ℕ, Bool, false, List, Option, Some}
+use Rattle.std.specs.Prelude.{◌≡◌, ℕ, false, List, Some}
 use Rattle.std.specs.List.{AllByRecursion}
 use Rattle.jv_pool.specs.declared.item.PoolItem.{PoolItem}
 use Rattle.jv_pool.specs.declared.item.PoolItem.TheVariants.{Class, Field, Method, InterfaceMethod, NameAndType}

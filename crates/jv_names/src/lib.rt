@@ -2,7 +2,7 @@
 //! the forms of their names and descriptors.
 #![tactic(auto)]
 
-ghost use Rattle.std.specs.Prelude.{◌≡◌, ℕ, List};
+ghost use Rattle.std.specs.Prelude.{List, ℕ};
 ghost use Rattle.jv_names.specs.Spellings.{IsArrayDescriptor, IsClassName};
 
 mod classes;
