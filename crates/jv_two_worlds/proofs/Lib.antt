@@ -5,3 +5,6 @@ mod Finding
 mod Inheriting
 mod DepthFirst
 mod Resolving
+mod Accessing
+mod Overriding
+mod Selecting

@@ -27,7 +27,7 @@ use Rattle.jv_two_worlds.proofs.Inheriting.{declares_alike, nearest_alike, no_ne
 use Rattle.jv_two_worlds.proofs.DepthFirst.{ClassesAlike, first_here, first_into, first_back}
 
 -- the name that a type has is that of the class at which its search begins
-begins_named : (w : List Shape) (type : RefType) (c : ℕ) (name : List ℕ) → BeginsAt w type c → named_class type ≡ Some name → IsNamed w c name
+pub begins_named : (w : List Shape) (type : RefType) (c : ℕ) (name : List ℕ) → BeginsAt w type c → named_class type ≡ Some name → IsNamed w c name
 begins_named w type c name begins e = subst (λ (o : Option (List ℕ)). IsNamed w c (unwrap_or o object_name)) e begins
 
 module _ {w v : List Shape} {to : ℕ → ℕ} (inside : StandsIn w v to) where
@@ -145,7 +145,7 @@ module _ {w v : List Shape} {to : ℕ → ℕ} (inside : StandsIn w v to) where
 
   -- ---- by a reference
 
-  names_interface : (type : RefType) (c : ℕ) → BeginsAt w type c → NamesInterface w type ↔ NamesInterface v type
+  pub names_interface : (type : RefType) (c : ℕ) → BeginsAt w type c → NamesInterface w type ↔ NamesInterface v type
   names_interface type c begins = (
     λ p. (p.0, to p.1, p.2, named_into inside p.1 p.0 p.3, interface_into inside p.1 p.4),
     λ q.
@@ -191,8 +191,12 @@ module _ {w v : List Shape} {to : ℕ → ℕ} (inside : StandsIn w v to) where
         },
       )
 
-  pub method_agrees : (r : MethodRef) (c : ℕ) → BeginsAt w r.class c → Agree (method_to to) (ResolvesMethod w r) (ResolvesMethod v r)
-  method_agrees r c begins = record { into = λ m p. method_found r c begins m p; back = λ n q. method_found_back r c begins n q }
+  pub method_alike : (r : MethodRef) (c : ℕ) → BeginsAt w r.class c → FindAlike w to (ResolvesMethod w r) (ResolvesMethod v r)
+  method_alike r c begins = record {
+    here = λ m p. (in_class_alike p.start r.name r.desc (begins_here r.class p.start p.begins)).here m p.found;
+    into = λ m p. method_found r c begins m p;
+    back = λ n q. method_found_back r c begins n q;
+  }
 
   interface_method_found : (r : MethodRef) (c : ℕ) → BeginsAt w r.class c → (m : MethodId) → ResolvesInterfaceMethod w r m → ResolvesInterfaceMethod v r (method_to to m)
   interface_method_found r c begins m p =
@@ -230,8 +234,12 @@ module _ {w v : List Shape} {to : ℕ → ℕ} (inside : StandsIn w v to) where
         },
       )
 
-  pub interface_method_agrees : (r : MethodRef) (c : ℕ) → BeginsAt w r.class c → Agree (method_to to) (ResolvesInterfaceMethod w r) (ResolvesInterfaceMethod v r)
-  interface_method_agrees r c begins = record { into = λ m p. interface_method_found r c begins m p; back = λ n q. interface_method_found_back r c begins n q }
+  pub interface_method_alike : (r : MethodRef) (c : ℕ) → BeginsAt w r.class c → FindAlike w to (ResolvesInterfaceMethod w r) (ResolvesInterfaceMethod v r)
+  interface_method_alike r c begins = record {
+    here = λ m p. (in_interface_alike p.start r.name r.desc (named_here w p.start p.name p.begins)).here m p.found;
+    into = λ m p. interface_method_found r c begins m p;
+    back = λ n q. interface_method_found_back r c begins n q;
+  }
 
   -- ---- why it doesn't resolve
 
@@ -239,7 +247,7 @@ module _ {w v : List Shape} {to : ℕ → ℕ} (inside : StandsIn w v to) where
   method_cause_agrees r c WrongKind begins = names_interface r.class c begins
   method_cause_agrees r c NotFound begins =
       let kind = names_interface r.class c begins in
-      let none = none_agree (method_agrees r c begins) in
+      let none = none_alike (method_alike r c begins) in
       (λ p. (λ k. p.0 (kind.1 k), none.0 p.1), λ q. (λ k. q.0 (kind.0 k), none.1 q.1))
   method_cause_agrees r c NoAccess begins = (λ p. p, λ p. p)
   method_cause_agrees r c Memory begins = (λ p. p, λ p. p)
@@ -250,7 +258,7 @@ module _ {w v : List Shape} {to : ℕ → ℕ} (inside : StandsIn w v to) where
       (λ p k. p (kind.1 k), λ q k. q (kind.0 k))
   interface_method_cause_agrees r c NotFound begins =
       let kind = names_interface r.class c begins in
-      let none = none_agree (interface_method_agrees r c begins) in
+      let none = none_alike (interface_method_alike r c begins) in
       (λ p. (kind.0 p.0, none.0 p.1), λ q. (kind.1 q.0, none.1 q.1))
   interface_method_cause_agrees r c NoAccess begins = (λ p. p, λ p. p)
   interface_method_cause_agrees r c Memory begins = (λ p. p, λ p. p)

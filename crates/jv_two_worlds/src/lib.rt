@@ -2,10 +2,14 @@
 //! numbers, with the same shapes, the two agree on supertypes, resolution, access, overriding and selection.
 #![tactic(auto)]
 
+mod access;
 mod hierarchy;
 mod resolution;
+mod selection;
 
+pub use access::{access_agrees, packages_agree, refusals_agree};
 pub use hierarchy::{classes_agree, subtypes_agree, superclasses_agree};
 pub use resolution::{
     fields_resolve_alike, interface_methods_resolve_alike, methods_resolve_alike,
 };
+pub use selection::{calls_select_alike, overriding_agrees};

@@ -1,8 +1,9 @@
-use Rattle.jv_two_worlds.proofs.Resolving.{method_agrees, method_cause_agrees}
+use Rattle.jv_two_worlds.proofs.Finding.{agree}
+use Rattle.jv_two_worlds.proofs.Resolving.{method_alike, method_cause_agrees}
 use Rattle.jv_two_worlds.proofs.resolution.methods_resolve_alike.Goals as goal
 
 pub returns-clause-found : goal.returns-clause-found
-returns-clause-found _ = λ w v to c r inside begins. method_agrees inside r c begins
+returns-clause-found _ = λ w v to c r inside begins. agree (method_alike inside r c begins)
 
 pub returns-clause-cause : goal.returns-clause-cause
 returns-clause-cause _ = λ w v to c r why inside begins. method_cause_agrees inside r c why begins
