@@ -10,7 +10,9 @@ use Rattle.jv_world.specs.Refusals.{IsLeastName}
 use Rattle.jv_world.specs.Building.{AreLinks, IsLinked, IsLedTo, straight, onward, AreInRange, AreLedFrom}
 use Rattle.jv_world.specs.Causes.{IsLeastOf, IsAbsentBefore, IsOwnBefore, IsWrongBefore, AreRightBefore}
 use Rattle.jv_world.specs.Kept.{IsKept}
-use Rattle.jv_world.specs.Ranks.{count_at}
+use Rattle.jv_world.specs.declared.members.Members.{Members}
+use Rattle.jv_world.specs.Steps.Ordered.{AreIndexed}
+use Rattle.jv_world.specs.Steps.Ranks.{count_at}
 use Rattle.jv_world.proofs.Absent.{IsLeastOf-absent}
 use Rattle.jv_world.proofs.Leasts.{IsLeastOf-same}
 use Rattle.jv_world.proofs.Ranking.{AreSupers, row_at, count_falls, count_bound}
@@ -118,10 +120,12 @@ IsWorld-built w rows numbered supers none right = record {
   bound = count_bound w rows supers;
 }
 
-pub IsKept-built : (w : List Shape) (names : List (List ℕ)) (rows : List (Vec ClassId Global)) → names ≡ map (λ s. s.name) w → AreSupers w rows → IsWorld w → IsKept w names rows
-IsKept-built w names rows is supers world = record {
+pub IsKept-built : (w : List Shape) (names : List (List ℕ)) (rows : List (Vec ClassId Global)) (members : List Members) → names ≡ map (λ s. s.name) w → AreSupers w rows → AreIndexed w (length w) members → IsWorld w
+    → IsKept w names rows members
+IsKept-built w names rows members is supers indexed world = record {
   world = world;
   names_are = is;
   supers_count = supers.count;
   supers_are = supers.exact;
+  members_are = indexed;
 }

@@ -7,7 +7,9 @@ mod Counting
 mod Leasts
 mod Linking
 mod Marking
+mod MemberKeys
 mod NamesFound
+mod OrderedPlaces
 mod Searching
 mod Ranking
 mod Rising

@@ -17,8 +17,9 @@ use Rattle.jv_types.specs.declared.ids.ClassId.{ClassId}
 use Rattle.jv_world.proofs.Choices.{by_bool}
 use Rattle.jv_types.specs.declared.shapes.Shape.{Shape}
 use Rattle.jv_world.specs.Worlds.{HasSuper, HasSuperclass, Sub, ProperSub, AreProperSupers, AreSuperclasses, IsWorld, same, link}
+use Rattle.jv_world.specs.declared.members.Members.{Members}
 use Rattle.jv_world.specs.Kept.{IsKept}
-use Rattle.jv_world.specs.Ranks.{count_at}
+use Rattle.jv_world.specs.Steps.Ranks.{count_at}
 use Rattle.jv_world.proofs.Subtypes.{Sub-proper, HasSuper-below, HasSuper-from}
 
 abbrev numbers : List ClassId → List ℕ
@@ -143,8 +144,8 @@ none_circular w world c proper =
     absurd (omega (arith, h, world.falls c proper.0 proper.1))
 
 -- what a world keeps are such lists
-pub AreSupers-kept : (w : List Shape) (names : List (List ℕ)) (rows : List (Vec ClassId Global)) → IsKept w names rows → AreSupers w rows
-AreSupers-kept w names rows kept = record {
+pub AreSupers-kept : (w : List Shape) (names : List (List ℕ)) (rows : List (Vec ClassId Global)) (members : List Members) → IsKept w names rows members → AreSupers w rows
+AreSupers-kept w names rows members kept = record {
   count = kept.supers_count;
   exact = kept.supers_are;
   apart = none_circular w kept.world;

@@ -1,6 +1,8 @@
 -- Which reference types are instances of which (JVMS 4.10.1.2, JLS 4.10.3).
-use Rattle.std.specs.Prelude.{◌≡◌, ℕ, ◌⊎◌, List, Some, slice_get, codes}
+use Rattle.std.specs.Prelude.{◌≡◌, ℕ, ◌<◌, ◌⊎◌, List, Some, length, slice_get, codes}
 use Rattle.jv_types.specs.declared.desc.RefType.{RefType, Class, PrimArray, Array, Array', Row_of-RefType, end_of-RefType, more_of-RefType}
+use Rattle.jv_types.specs.declared.label.LibBase.{LibBase}
+use Rattle.jv_types.specs.declared.label.LibBase.TheVariants.{Class as LibClass, Prim as LibPrim}
 use Rattle.jv_types.specs.declared.shapes.Shape.{Shape}
 use Rattle.jv_world.specs.Worlds.{object_name, IsInterface, IsNamed, Sub}
 
@@ -34,3 +36,28 @@ abbrev mutual
   pub IsArrayOf : List Shape → RefType → {m : _} → Row_of-RefType m → Type 0
   IsArrayOf w type end_of-RefType = ⊥
   IsArrayOf w type (more_of-RefType item rest) = (own : RefType) × (type ≡ Array own) × IsInstanceOf w own item
+
+-- ---- types by a base and as many dimensions
+
+-- a class of the base is one of the world
+abbrev pub IsBaseHere : List Shape → LibBase → Type 0
+IsBaseHere w (LibClass c) = c.number < length w
+IsBaseHere w (LibPrim prim) = Unit {0}
+
+-- with as many dimensions, the one base is an instance of the other: a subtype of a class, or the same primitive type
+abbrev pub IsBaseInstance : List Shape → LibBase → LibBase → Type 0
+IsBaseInstance w (LibClass c) (LibClass d) = Sub w c.number d.number
+IsBaseInstance w (LibClass c) (LibPrim prim) = ⊥
+IsBaseInstance w (LibPrim prim) (LibClass d) = ⊥
+IsBaseInstance w (LibPrim prim) (LibPrim other) = prim ≡ other
+
+-- every array is an instance of the base
+abbrev pub IsArraySuperBase : List Shape → LibBase → Type 0
+IsArraySuperBase w (LibClass d) = (name : List ℕ) × IsNamed w d.number name × IsArraySuper name
+IsArraySuperBase w (LibPrim prim) = ⊥
+
+-- An object of the first type is an instance of the second: of as many dimensions where its base is one, and of
+-- fewer where that base is what every array is an instance of.
+abbrev pub IsInstanceInDims : List Shape → LibBase → ℕ → LibBase → ℕ → Type 0
+IsInstanceInDims w base dims of of_dims =
+    ((dims ≡ of_dims) × IsBaseInstance w base of) ⊎ ((of_dims < dims) × IsArraySuperBase w of)

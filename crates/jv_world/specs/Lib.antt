@@ -4,5 +4,6 @@ pub mod Causes
 pub mod Instances
 pub mod Refusals
 pub mod Kept
-pub mod Ranks
+pub mod MemberPlaces
+pub mod Steps
 pub mod Whole

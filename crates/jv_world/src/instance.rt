@@ -1,9 +1,9 @@
 ghost use Rattle.std.specs.Prelude.{◌↔◌, IsTrue};
-ghost use Rattle.jv_world.specs.Instances.{IsArraySuper, IsInstanceOf, IsInstanceOfClass, IsInterfaceNamed, IsSubNamed};
+ghost use Rattle.jv_world.specs.Instances.{IsArraySuper, IsArraySuperBase, IsBaseHere, IsBaseInstance, IsInstanceInDims, IsInstanceOf, IsInstanceOfClass, IsInterfaceNamed, IsSubNamed};
 
 use crate::causes::is_interface;
 use crate::world::World;
-use jv_types::{Name, RefType};
+use jv_types::{LibBase, Name, RefType};
 
 /// Whether every array is an instance of the class or interface of this name (JLS 4.10.3). It takes no memory.
 pub fn is_array_super(name: &Name) -> bool
@@ -69,5 +69,44 @@ impl World {
             (RefType::PrimArray(_), RefType::Array(_)) => false,
             (RefType::Array(_), RefType::PrimArray(_)) => false,
         }
+    }
+
+    /// Whether the one base is an instance of the other.
+    fn is_base_instance(&self, base: LibBase, of: LibBase) -> bool
+        requires base_here { IsBaseHere self.now base }
+        requires of_here { IsBaseHere self.now of }
+        ensures { IsTrue result ↔ IsBaseInstance self.now base of }
+    {
+        match (base, of) {
+            (LibBase::Class(class), LibBase::Class(other)) => self.sub(class, other),
+            (LibBase::Prim(prim), LibBase::Prim(other)) => prim == other,
+            (LibBase::Class(_), LibBase::Prim(_)) => false,
+            (LibBase::Prim(_), LibBase::Class(_)) => false,
+        }
+    }
+
+    /// Whether every array is an instance of the base.
+    fn is_array_super_base(&self, of: LibBase) -> bool
+        requires { IsBaseHere self.now of }
+        ensures { IsTrue result ↔ IsArraySuperBase self.now of }
+    {
+        match of {
+            LibBase::Class(class) => is_array_super(&self.shape(class).name),
+            LibBase::Prim(_) => false,
+        }
+    }
+
+    /// Whether each object of a type is an instance of another (JVMS 4.10.1.2, JLS 4.10.3), where each of the two is
+    /// given by its base and its dimensions, which are none for a class itself. No name is looked up, and it takes no
+    /// memory.
+    pub fn is_instance_in_dims(&self, base: LibBase, dims: u32, of: LibBase, of_dims: u32) -> bool
+        requires base_here { IsBaseHere self.now base }
+        requires of_here { IsBaseHere self.now of }
+        ensures { IsTrue result ↔ IsInstanceInDims self.now base dims of of_dims }
+    {
+        if dims == of_dims {
+            return self.is_base_instance(base, of);
+        }
+        of_dims < dims && self.is_array_super_base(of)
     }
 }

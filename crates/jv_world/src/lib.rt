@@ -6,6 +6,7 @@ mod closure;
 mod instance;
 mod links;
 mod lists;
+mod members;
 mod names;
 mod numbered;
 mod refusal;

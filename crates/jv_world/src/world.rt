@@ -1,14 +1,16 @@
 ghost use Rattle.std.specs.Prelude.{◌≡◌, ℕ, ◌<◌, ◌↔◌, List, Some, length, map, slice_get, IsTrue, IfOk, IfErr, IfSome, IfNone};
 ghost use Rattle.jv_world.specs.Worlds.{IsNamed, HasSuperclass, IsSubclass, Sub, AreSuperclasses, AreNumbered, AreProperSupers, IsWorld};
+ghost use Rattle.jv_world.specs.MemberPlaces.{HasNoField, HasNoMethod, IsFieldPlace, IsMethodPlace};
 ghost use Rattle.jv_world.specs.Refusals.{HasCause};
 
 use crate::causes::{least_absent, least_circular, least_wrong};
 use crate::closure::all_led;
 use crate::links::links_of;
 use crate::lists::contains;
+use crate::members::{Members, all_members};
 use crate::names::Names;
 use crate::refusal::HierRefusal;
-use jv_types::{ClassId, Copied, Name, Shape};
+use jv_types::{ClassId, Copied, Desc, MethodDesc, Name, Shape};
 use std::alloc::{AllocError, Global};
 use std::marker::Model;
 
@@ -21,6 +23,8 @@ pub struct World {
     names: Names,
     /// The proper supertypes of each class, least number first.
     supers: Vec<Vec<ClassId>>,
+    /// The members of each class, found by name and descriptor.
+    members: Vec<Members>,
 }
 
 impl Model for World {
@@ -36,7 +40,7 @@ impl Model for World {
 
     ghost view = { λ w. w.shapes.items };
 
-    ghost invariant = { λ w. IsKept w.shapes.items w.names w.supers.items };
+    ghost invariant = { λ w. IsKept w.shapes.items w.names w.supers.items w.members.items };
 }
 
 impl World {
@@ -61,10 +65,12 @@ impl World {
         if let Some(name) = least_wrong(shapes.as_slice(), &names) {
             return Err(HierRefusal::SuperKind(name.copy()?));
         }
+        let members = all_members(alloc, shapes.as_slice())?;
         Ok(World {
             shapes,
             names,
             supers,
+            members,
         })
     }
 
@@ -190,5 +196,29 @@ impl World {
         ensures world { IsWorld self.now }
     {
         Vec::from_slice(alloc, self.proper_supers(c))
+    }
+
+    /// The place of the method that a class declares with this name and descriptor, the first where there are
+    /// more. It is found by halves among the methods of the class, and takes no memory.
+    pub fn method_place(&self, c: ClassId, name: &Name, desc: &MethodDesc) -> Option<u16>
+        requires { c.number < length self.now }
+        ensures found { IfSome result (IsMethodPlace self.now c.number name.now desc.now) }
+        ensures none { IfNone result (HasNoMethod self.now c.number name.now desc.now) }
+        ensures world { IsWorld self.now }
+    {
+        let members = &self.members[c.number as usize];
+        members.method_place(self.shape(c), name, desc)
+    }
+
+    /// The place of the field that a class declares with this name and type, the first where there are more.
+    /// It is found by halves among the fields of the class, and takes no memory.
+    pub fn field_place(&self, c: ClassId, name: &Name, desc: &Desc) -> Option<u16>
+        requires { c.number < length self.now }
+        ensures found { IfSome result (IsFieldPlace self.now c.number name.now desc.now) }
+        ensures none { IfNone result (HasNoField self.now c.number name.now desc.now) }
+        ensures world { IsWorld self.now }
+    {
+        let members = &self.members[c.number as usize];
+        members.field_place(self.shape(c), name, desc)
     }
 }

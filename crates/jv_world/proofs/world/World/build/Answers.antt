@@ -52,7 +52,8 @@ invariant_of-result c =
     let right = rw c.as_slice-7.ensures.value at c.in_default-least_wrong.ensures.right in
     let supers = AreSupers-led w c.in_ok-links.links.items rows _ links led links.count no_circle in
     let world = IsWorld-built w rows c.requires supers none right in
-    IsKept-built w c.in_ok-names.names rows names supers world
+    let indexed = rw c.as_slice-8.ensures.value at c.in_ok-members.ensures in
+    IsKept-built w c.in_ok-names.names rows c.in_ok-members.members.items names supers indexed world
 
 pub returns-clause-world : goal.returns-clause-world
 returns-clause-world c =

@@ -9,7 +9,7 @@ pub prove-unreachable-requires : goal.prove-unreachable-requires
 prove-unreachable-requires c =
     let w = c.self.inside.shapes.items in
     let rows = c.self.inside.supers.items in
-    let supers = AreSupers-kept w c.self.inside.names rows c.self.invariant in
+    let supers = AreSupers-kept w c.self.inside.names rows c.self.inside.members.items c.self.invariant in
     let first = rw (← c.self.view_is) at c.in-Some.ensures.found in
     let falls = count_falls w rows supers c.loop-next.class.number c.in-Some.next.number (inl first) in
     let here = c.loop-next.invariant.here in
@@ -24,7 +24,7 @@ pub loop-next-smaller : goal.loop-next-smaller
 loop-next-smaller c =
     let w = c.self.inside.shapes.items in
     let rows = c.self.inside.supers.items in
-    let supers = AreSupers-kept w c.self.inside.names rows c.self.invariant in
+    let supers = AreSupers-kept w c.self.inside.names rows c.self.inside.members.items c.self.invariant in
     let first = rw (← c.self.view_is) at c.in-Some.ensures.found in
     count_falls w rows supers c.loop-next.class.number c.in-Some.next.number (inl first)
 

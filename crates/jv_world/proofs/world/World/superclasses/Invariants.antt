@@ -1,6 +1,6 @@
 use Rattle.std.proofs.Common.{ℕ, ◌<◌, List, ◌++◌, length, map}
 use Rattle.jv_world.specs.Worlds.{AreSuperclasses}
-use Rattle.jv_world.specs.Ranks.{count_at}
+use Rattle.jv_world.specs.Steps.Ranks.{count_at}
 use Rattle.jv_world.proofs.world.World.superclasses.Given as goal
 
 abbrev pub invariant-loop-next : goal.invariant-loop-next

@@ -1,0 +1,7 @@
+use Rattle.jv_world.proofs.MemberKeys.{AreMembers-at}
+use Rattle.jv_world.proofs.world.World.method_place.Goals as goal
+
+pub method_place-requires : goal.method_place-requires
+method_place-requires c =
+    AreMembers-at c.self.inside.shapes.items c.self.inside.members.items c.args.c.number c.shape.result.now c.index-members.result.now
+    c.self.invariant.members_are (rw (← c.self.view_is) at c.requires) (rw (← c.self.view_is) at c.shape.ensures.shape) c.index-members.ensures
