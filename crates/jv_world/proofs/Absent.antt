@@ -4,9 +4,8 @@ use Rattle.std.proofs.lemmas.Bool.{cases_lt}
 use Rattle.std.proofs.lemmas.List.{take_all}
 use Rattle.std.proofs.lemmas.Option.{same_Some, none-some, slice_get-get_or}
 use Rattle.jv_types.specs.declared.shapes.Shape.{Shape}
-use Rattle.jv_world.specs.Worlds.{IsAbsent}
-use Rattle.jv_world.specs.Building.{NamesSuper}
-use Rattle.jv_world.specs.Causes.{lesser_name, IsLeastOf, IsNowhere, TakesAbsent, TakesAbsentParent, IsAbsentBefore}
+use Rattle.jv_world.specs.Worlds.{IsAbsent, NamesSuper}
+use Rattle.jv_world.specs.Steps.Causes.{lesser_name, IsLeastOf, IsNowhere, TakesAbsent, TakesAbsentParent, IsAbsentBefore}
 use Rattle.jv_world.proofs.Leasts.{IsLeastOf-same, IsLeastOf-more}
 use Rattle.jv_world.proofs.Linking.{Contains-take_cases, Contains-take_kept, Contains-take_new}
 use Rattle.jv_world.proofs.NamesFound.{IsNamed-at, at_IsNamed}

@@ -7,9 +7,9 @@ use Rattle.jv_types.specs.declared.ids.ClassId.{ClassId}
 use Rattle.jv_types.specs.declared.shapes.Shape.{Shape}
 use Rattle.jv_world.specs.Worlds.{AreNumbered, HasSuper, Sub, same, link, ProperSub, IsAbsent, IsCircular, HasWrongSuper, AreProperSupers, IsWorld}
 use Rattle.jv_world.specs.Refusals.{IsLeastName}
-use Rattle.jv_world.specs.Building.{AreLinks, IsLinked, IsLedTo, straight, onward, AreInRange, AreLedFrom}
-use Rattle.jv_world.specs.Causes.{IsLeastOf, IsAbsentBefore, IsOwnBefore, IsWrongBefore, AreRightBefore}
-use Rattle.jv_world.specs.Kept.{IsKept}
+use Rattle.jv_world.specs.Steps.Building.{AreLinks, IsLinked, IsLedTo, straight, onward, AreInRange, AreLedFrom}
+use Rattle.jv_world.specs.Steps.Causes.{IsLeastOf, IsAbsentBefore, IsOwnBefore, IsWrongBefore, AreRightBefore}
+use Rattle.jv_world.specs.Steps.Kept.{IsKept}
 use Rattle.jv_world.specs.declared.members.Members.{Members}
 use Rattle.jv_world.specs.Steps.Ordered.{AreIndexed}
 use Rattle.jv_world.specs.Steps.Ranks.{count_at}

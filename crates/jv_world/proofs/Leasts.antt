@@ -6,7 +6,7 @@ use Rattle.std.specs.Cmp.Lexicographic.{slice_cmp, nat_list_cmp_total}
 use Rattle.std.specs.Ordering.{nat_cmp, is_gt, ordering_reverse}
 use Rattle.std.specs.declared.cmp.Ordering.{Ordering}
 use Rattle.std.specs.declared.cmp.Ordering.TheVariants.{Less, Equal, Greater}
-use Rattle.jv_world.specs.Causes.{lesser_name, IsLeastOf}
+use Rattle.jv_world.specs.Steps.Causes.{lesser_name, IsLeastOf}
 use Rattle.jv_world.proofs.Choices.{by_bool}
 
 not_gt : (o : Ordering) → (o ≡ Greater → ⊥) → is_gt o ≡ false

@@ -7,8 +7,8 @@ use Rattle.std.proofs.lemmas.List.Elements.{Contains-append_left, Contains-push,
 use Rattle.std.proofs.lemmas.Option.{none-some, same_Some, slice_get-get_or}
 use Rattle.jv_types.specs.declared.ids.ClassId.{ClassId}
 use Rattle.jv_types.specs.declared.shapes.Shape.{Shape}
-use Rattle.jv_world.specs.Worlds.{AreNumbered, IsNamed}
-use Rattle.jv_world.specs.Building.{Has, AreClassNames, AddsNamed, NamesSuper, RowFor, AreLinks}
+use Rattle.jv_world.specs.Worlds.{AreNumbered, IsNamed, NamesSuper}
+use Rattle.jv_world.specs.Steps.Building.{Has, AreClassNames, AddsNamed, RowFor, AreLinks}
 use Rattle.jv_world.proofs.NamesFound.{IsNamed-at, at_IsNamed}
 
 -- the names of a list of shapes

@@ -9,7 +9,7 @@ use Rattle.std.proofs.lemmas.Map.Keys.{IsDistinct-push}
 use Rattle.std.proofs.lemmas.Map.Steps.{length-le_from_distinct_below}
 use Rattle.std.proofs.lemmas.Map.Views.{Contains-from_any}
 use Rattle.jv_types.specs.declared.ids.ClassId.{ClassId}
-use Rattle.jv_world.specs.Building.{Has, marked, IsMarking, AddsAll}
+use Rattle.jv_world.specs.Steps.Building.{Has, marked, IsMarking, AddsAll}
 use Rattle.jv_world.proofs.Choices.{by_bool}
 use Rattle.jv_world.proofs.Linking.{Has-push, Contains-take_cases, Contains-take_kept, Contains-take_new}
 use Rattle.jv_world.proofs.Ranking.{Contains-class}

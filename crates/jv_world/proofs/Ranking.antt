@@ -18,7 +18,7 @@ use Rattle.jv_world.proofs.Choices.{by_bool}
 use Rattle.jv_types.specs.declared.shapes.Shape.{Shape}
 use Rattle.jv_world.specs.Worlds.{HasSuper, HasSuperclass, Sub, ProperSub, AreProperSupers, AreSuperclasses, IsWorld, same, link}
 use Rattle.jv_world.specs.declared.members.Members.{Members}
-use Rattle.jv_world.specs.Kept.{IsKept}
+use Rattle.jv_world.specs.Steps.Kept.{IsKept}
 use Rattle.jv_world.specs.Steps.Ranks.{count_at}
 use Rattle.jv_world.proofs.Subtypes.{Sub-proper, HasSuper-below, HasSuper-from}
 

@@ -13,7 +13,7 @@ use Rattle.std.proofs.lemmas.List.Sorted.{Contains-permutation, IsPermutation-sy
 use Rattle.std.proofs.lemmas.Map.Keys.{IsDistinct-from_apart, IsDistinct-IsPermutation, apart_from_distinct, ge_from_not_lt}
 use Rattle.std.specs.Cmp.{nat_eq_equiv}
 use Rattle.jv_types.specs.declared.ids.ClassId.{ClassId}
-use Rattle.jv_world.specs.Building.{Has, IsLinked, IsLedTo, straight, onward, IsClear, IsFound, marked, IsMarking, AddsAll, AreLed, AreLedFrom}
+use Rattle.jv_world.specs.Steps.Building.{Has, IsLinked, IsLedTo, straight, onward, IsClear, IsFound, marked, IsMarking, AddsAll, AreLed, AreLedFrom}
 use Rattle.jv_world.proofs.Marking.{marked_below, AddsAll-same}
 use Rattle.jv_world.proofs.Linking.{slice_get-push}
 

@@ -8,8 +8,8 @@ use Rattle.std.specs.declared.vec.Vec.{Vec}
 use Rattle.jv_types.specs.declared.ids.ClassId.{ClassId}
 use Rattle.jv_types.specs.declared.shapes.Shape.{Shape}
 use Rattle.jv_world.specs.Worlds.{object_name, AreNumbered, IsNamed, IsInterface, IsFinal, HasRightSupers}
-use Rattle.jv_world.specs.Building.{Has}
-use Rattle.jv_world.specs.Causes.{lesser_name, IsLeastOf, IsWrongBefore, AreRightBefore, IsOwnBefore, HasItself, HasRightSuperclass, AreInterfaces, ExtendsObject}
+use Rattle.jv_world.specs.Steps.Building.{Has}
+use Rattle.jv_world.specs.Steps.Causes.{lesser_name, IsLeastOf, IsWrongBefore, AreRightBefore, IsOwnBefore, HasItself, HasRightSuperclass, AreInterfaces, ExtendsObject}
 use Rattle.jv_world.proofs.Leasts.{IsLeastOf-same, IsLeastOf-more}
 use Rattle.jv_world.proofs.Linking.{Contains-take_cases}
 use Rattle.jv_world.proofs.NamesFound.{IsNamed-at, at_IsNamed, same_name}

@@ -8,9 +8,9 @@ use Rattle.std.proofs.lemmas.Option.{slice_get-get_or, slice_get_within, same_So
 use Rattle.jv_types.specs.declared.ids.ClassId.{ClassId}
 use Rattle.jv_types.specs.declared.shapes.Shape.{Shape}
 use Rattle.jv_world.specs.Worlds.{HasRightSupers, IsNamed, ProperSub, Sub, same, link}
-use Rattle.jv_world.specs.Building.{Has, AreLinks, AreLedFrom, marked}
-use Rattle.jv_world.specs.Causes.{AreRising, HasItself}
-use Rattle.jv_world.specs.Whole.{AreMarks, HasSupersThere, HaveSupers, IsSound, IsWhole}
+use Rattle.jv_world.specs.Steps.Building.{Has, AreLinks, AreLedFrom, marked, HaveSupers}
+use Rattle.jv_world.specs.Steps.Causes.{AreRising, HasItself}
+use Rattle.jv_world.specs.Whole.{AreMarks, HasSupersThere, IsSound, IsWhole}
 use Rattle.jv_world.proofs.Built.{AreProperSupers-led}
 use Rattle.jv_world.proofs.Linking.{slice_get-push}
 use Rattle.jv_world.proofs.NamesFound.{IsNamed-at, at_IsNamed}

@@ -1,9 +1,6 @@
 pub mod Worlds
-pub mod Building
-pub mod Causes
 pub mod Instances
-pub mod Refusals
-pub mod Kept
 pub mod MemberPlaces
-pub mod Steps
+pub mod Refusals
 pub mod Whole
+pub mod Steps

@@ -1,12 +1,8 @@
 -- Which classes of a list are whole: they and all their supertypes are there, of the right kinds and without a
 -- circle (JVMS 4.1, 5.3.5).
 use Rattle.std.specs.Prelude.{◌≡◌, ℕ, ◌↔◌, Bool, IsTrue, List, Some, length, slice_get}
-use Rattle.std.specs.declared.alloc.Global.{Global}
-use Rattle.std.specs.declared.vec.Vec.{Vec}
-use Rattle.jv_types.specs.declared.ids.ClassId.{ClassId}
 use Rattle.jv_types.specs.declared.shapes.Shape.{Shape}
-use Rattle.jv_world.specs.Worlds.{AreProperSupers, HasRightSupers, IsNamed, ProperSub, Sub}
-use Rattle.jv_world.specs.Building.{NamesSuper}
+use Rattle.jv_world.specs.Worlds.{HasRightSupers, IsNamed, NamesSuper, ProperSub, Sub}
 
 -- the supertypes that the class names are there
 abbrev pub HasSupersThere : List Shape → Shape → Type 0
@@ -29,8 +25,3 @@ IsWhole w c = (d : ℕ) → Sub w c d → IsSound w d
 pub record AreMarks (P : ℕ → Type 0) (n : ℕ) (marks : List Bool) : Type 0 where
   pub count : length marks ≡ n
   pub exact : (c : ℕ) (mark : Bool) → slice_get marks c ≡ Some mark → IsTrue mark ↔ P c
-
--- the rows have the proper supertypes of each class
-pub record HaveSupers (w : List Shape) (rows : List (Vec ClassId Global)) : Type 0 where
-  pub count : length rows ≡ length w
-  pub exact : (c : ℕ) (row : Vec ClassId Global) → slice_get rows c ≡ Some row → AreProperSupers w c row.items

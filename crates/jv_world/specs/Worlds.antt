@@ -58,6 +58,10 @@ abbrev pub AreSuperclasses : List Shape → ℕ → List ℕ → Type 0
 AreSuperclasses w c [] = (d : ℕ) → ¬ HasSuperclass w c d
 AreSuperclasses w c (d ∷ ds) = HasSuperclass w c d × AreSuperclasses w d ds
 
+-- a class names this one as its superclass or as a superinterface
+abbrev pub NamesSuper : Shape → List ℕ → Type 0
+NamesSuper shape name = (shape.parent ≡ Some name) ⊎ Contains shape.interfaces name
+
 -- a class names this one as its superclass or as a superinterface, and no class has the name
 pub record IsAbsent (w : List Shape) (name : List ℕ) : Type 0 where
   pub shape : Shape

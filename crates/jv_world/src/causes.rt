@@ -1,7 +1,7 @@
 ghost use Rattle.std.specs.Prelude.{◌≡◌, ◌≢◌, ◌+◌, ◌^◌, ◌<◌, ◌↔◌, Some, length, map, option_copied, IsTrue, IfSome, IfNone, Contains};
 ghost use Rattle.jv_types.specs.declared.shapes.Shape.{Shape as ShapeValue};
 ghost use Rattle.jv_world.specs.Worlds.{AreNumbered, HasRightSupers, IsInterface, IsFinal};
-ghost use Rattle.jv_world.specs.Causes.{lesser_name, AreInterfaces, AreRightBefore, AreRising, ExtendsObject, HasItself, HasRightSuperclass, IsAbsentBefore, IsLeastOf, IsOwnBefore, IsWrongBefore, TakesAbsent, TakesAbsentParent};
+ghost use Rattle.jv_world.specs.Steps.Causes.{lesser_name, AreInterfaces, AreRightBefore, AreRising, ExtendsObject, HasItself, HasRightSuperclass, IsAbsentBefore, IsLeastOf, IsOwnBefore, IsWrongBefore, TakesAbsent, TakesAbsentParent};
 
 use crate::lists::contains;
 use crate::names::Names;

@@ -1,5 +1,5 @@
 ghost use Rattle.std.specs.Prelude.{◌≡◌, ℕ, ◌^◌, ◌<◌, [], length, IsTrue, IfOk, OnOk};
-ghost use Rattle.jv_world.specs.Building.{AddsAll, AreInRange, AreLed, AreLedFrom, Has, IsClear, IsFound, IsLinked, IsMarking, marked};
+ghost use Rattle.jv_world.specs.Steps.Building.{AddsAll, AreInRange, AreLed, AreLedFrom, Has, IsClear, IsFound, IsLinked, IsMarking, marked};
 
 use jv_types::ClassId;
 use std::alloc::{AllocError, Global};

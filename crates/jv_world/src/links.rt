@@ -1,6 +1,6 @@
 ghost use Rattle.std.specs.Prelude.{◌≡◌, Some, map, IfOk, OnOk};
-ghost use Rattle.jv_world.specs.Worlds.{AreNumbered};
-ghost use Rattle.jv_world.specs.Building.{AreLinks, AreClassNames, RowFor, NamesSuper, AddsNamed};
+ghost use Rattle.jv_world.specs.Worlds.{AreNumbered, NamesSuper};
+ghost use Rattle.jv_world.specs.Steps.Building.{AreLinks, AreClassNames, RowFor, AddsNamed};
 
 use crate::names::Names;
 use jv_types::{ClassId, Name, Shape};

@@ -1,7 +1,7 @@
 ghost use Rattle.std.specs.Prelude.{◌≡◌, ℕ, ◌<◌, ◌↔◌, List, Some, length, map, Contains, IsTrue, IfOk};
 ghost use Rattle.jv_world.specs.Worlds.{AreNumbered, IsNamed, ProperSub};
-ghost use Rattle.jv_world.specs.Building.{marked, Has};
-ghost use Rattle.jv_world.specs.Whole.{AreMarks, HasSupersThere, HaveSupers, IsSound, IsWhole};
+ghost use Rattle.jv_world.specs.Steps.Building.{marked, Has, HaveSupers};
+ghost use Rattle.jv_world.specs.Whole.{AreMarks, HasSupersThere, IsSound, IsWhole};
 
 use crate::causes::{has_itself, has_right_supers};
 use crate::closure::all_led;

@@ -30,7 +30,7 @@ pub struct World {
 impl Model for World {
     ghost use Rattle.std.specs.Prelude.{List};
     ghost use Rattle.jv_types.specs.declared.shapes.Shape.{Shape};
-    ghost use Rattle.jv_world.specs.Kept.{IsKept};
+    ghost use Rattle.jv_world.specs.Steps.Kept.{IsKept};
     ghost use Rattle.jv_types.specs.contracts.shapes.Shape as shape;
     ghost use Rattle.std.specs.Coded.{codes};
 

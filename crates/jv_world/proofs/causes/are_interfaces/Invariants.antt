@@ -1,5 +1,5 @@
 use Rattle.std.proofs.Common.{take}
-use Rattle.jv_world.specs.Causes.{AreInterfaces}
+use Rattle.jv_world.specs.Steps.Causes.{AreInterfaces}
 use Rattle.jv_world.proofs.causes.are_interfaces.Given as goal
 
 abbrev pub invariant-loop-name : goal.invariant-loop-name

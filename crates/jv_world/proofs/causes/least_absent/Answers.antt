@@ -1,5 +1,5 @@
 use Rattle.std.proofs.Common.{◌≡◌, ℕ, length, option_copied, subst, arith}
-use Rattle.jv_world.specs.Causes.{IsLeastOf, IsAbsentBefore}
+use Rattle.jv_world.specs.Steps.Causes.{IsLeastOf, IsAbsentBefore}
 use Rattle.jv_world.proofs.Absent.{IsLeastOf-absent_none}
 use Rattle.jv_world.proofs.causes.least_absent.Goals as goal
 

@@ -1,5 +1,5 @@
 use Rattle.std.proofs.Common.{option_copied}
-use Rattle.jv_world.specs.Causes.{IsLeastOf, IsAbsentBefore}
+use Rattle.jv_world.specs.Steps.Causes.{IsLeastOf, IsAbsentBefore}
 use Rattle.jv_world.proofs.causes.least_absent.Given as goal
 
 abbrev pub invariant-loop-place : goal.invariant-loop-place

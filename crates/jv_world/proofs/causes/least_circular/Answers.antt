@@ -1,5 +1,5 @@
 use Rattle.std.proofs.Common.{◌≡◌, ℕ, length, option_copied, Some, subst, arith}
-use Rattle.jv_world.specs.Causes.{IsLeastOf, IsOwnBefore}
+use Rattle.jv_world.specs.Steps.Causes.{IsLeastOf, IsOwnBefore}
 use Rattle.jv_world.proofs.SuperKinds.{own-none, own-same, own-more}
 use Rattle.jv_world.proofs.causes.least_circular.Goals as goal
 use Rattle.jv_world.proofs.causes.least_circular.Goals.{then-has_itself, else-has_itself}

@@ -1,7 +1,7 @@
 use Rattle.std.proofs.Common.{◌≡◌, Some, ap, sym, ◌∙◌, subst, option_copied, take}
 use Rattle.std.proofs.lemmas.Option.{slice_get-get_or, same_Some}
 use Rattle.jv_types.specs.declared.shapes.Shape.{Shape}
-use Rattle.jv_world.specs.Causes.{IsLeastOf}
+use Rattle.jv_world.specs.Steps.Causes.{IsLeastOf}
 use Rattle.jv_world.proofs.Absent.{SoFar, SoFar-start, SoFar-step, SoFar-end}
 use Rattle.jv_world.proofs.causes.or_absent_supers.Goals as goal
 

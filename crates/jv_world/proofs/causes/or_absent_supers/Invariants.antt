@@ -1,6 +1,6 @@
 use Rattle.std.proofs.Common.{◌≡◌, Some, take, slice_get, option_copied}
 use Rattle.jv_types.specs.declared.shapes.Shape.{Shape}
-use Rattle.jv_world.specs.Causes.{IsLeastOf}
+use Rattle.jv_world.specs.Steps.Causes.{IsLeastOf}
 use Rattle.jv_world.proofs.Absent.{SoFar}
 use Rattle.jv_world.proofs.causes.or_absent_supers.Given as goal
 

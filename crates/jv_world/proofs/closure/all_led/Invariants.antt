@@ -1,4 +1,4 @@
-use Rattle.jv_world.specs.Building.{IsClear, AreLedFrom}
+use Rattle.jv_world.specs.Steps.Building.{IsClear, AreLedFrom}
 use Rattle.jv_world.proofs.closure.all_led.Given as goal
 
 abbrev pub invariant-loop-number : goal.invariant-loop-number

@@ -1,5 +1,5 @@
 use Rattle.std.proofs.Common.{◌≡◌, ◌⊎◌, Some, take, Contains}
-use Rattle.jv_world.specs.Building.{RowFor}
+use Rattle.jv_world.specs.Steps.Building.{RowFor}
 use Rattle.jv_world.proofs.links.row_of.Given as goal
 
 -- the superclass and the interfaces so far

@@ -1,5 +1,5 @@
 use Rattle.std.proofs.Common.{ℕ, IsTrue, take}
-use Rattle.jv_world.specs.Building.{Has, marked}
+use Rattle.jv_world.specs.Steps.Building.{Has, marked}
 use Rattle.jv_world.proofs.whole.are_marked.Given as goal
 
 abbrev pub invariant-loop-class : goal.invariant-loop-class

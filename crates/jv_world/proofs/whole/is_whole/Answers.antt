@@ -1,5 +1,5 @@
 use Rattle.std.proofs.Common.{◌<◌, length, refl, arith}
-use Rattle.jv_world.specs.Building.{marked}
+use Rattle.jv_world.specs.Steps.Building.{marked}
 use Rattle.jv_world.proofs.Searching.{row_there}
 use Rattle.jv_world.proofs.Wholes.{not_whole, row_below, whole_by}
 use Rattle.jv_world.proofs.whole.is_whole.Goals as goal

@@ -1,7 +1,7 @@
 use Rattle.std.proofs.Common.{List, subst, arith}
 use Rattle.std.proofs.lemmas.Result.{on_ok_weaker}
 use Rattle.jv_types.specs.declared.ids.ClassId.{ClassId}
-use Rattle.jv_world.specs.Building.{Has}
+use Rattle.jv_world.specs.Steps.Building.{Has}
 use Rattle.jv_world.proofs.Searching.{row_there, AddsAll-links}
 use Rattle.jv_world.proofs.closure.Search.follow.Goals as goal
 

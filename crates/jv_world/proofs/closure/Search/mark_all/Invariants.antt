@@ -1,5 +1,5 @@
 use Rattle.std.proofs.Common.{take}
-use Rattle.jv_world.specs.Building.{Has, AddsAll}
+use Rattle.jv_world.specs.Steps.Building.{Has, AddsAll}
 use Rattle.jv_world.proofs.closure.Search.mark_all.Given as goal
 
 -- the classes so far are marked

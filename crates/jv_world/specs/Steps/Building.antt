@@ -7,7 +7,7 @@ use Rattle.std.specs.declared.alloc.Global.{Global}
 use Rattle.std.specs.declared.vec.Vec.{Vec}
 use Rattle.jv_types.specs.declared.ids.ClassId.{ClassId}
 use Rattle.jv_types.specs.declared.shapes.Shape.{Shape}
-use Rattle.jv_world.specs.Worlds.{HasSuper}
+use Rattle.jv_world.specs.Worlds.{AreProperSupers, HasSuper}
 
 -- a list of classes has the class of this number
 abbrev pub Has : List ClassId → ℕ → Type 0
@@ -23,10 +23,6 @@ pub record AddsNamed (names : List (List ℕ)) (name : List ℕ) (old new : List
   pub kept : (n : ℕ) → Has old n → Has new n
   pub added : (n : ℕ) → slice_get names n ≡ Some name → Has new n
   pub only : (n : ℕ) → Has new n → Has old n ⊎ (slice_get names n ≡ Some name)
-
--- a class names this one as its superclass or as a superinterface
-abbrev pub NamesSuper : Shape → List ℕ → Type 0
-NamesSuper shape name = (shape.parent ≡ Some name) ⊎ Contains shape.interfaces name
 
 -- the classes that have the names of P
 pub record RowFor (P : List ℕ → Type 0) (names : List (List ℕ)) (row : List ClassId) : Type 0 where
@@ -94,3 +90,8 @@ pub record IsFound (links : List (Vec ClassId Global)) (c : ℕ) (marks : List B
 pub record AreLedFrom (links : List (Vec ClassId Global)) (n : ℕ) (rows : List (Vec ClassId Global)) : Type 0 where
   pub count : length rows ≡ n
   pub rows_are : (c : ℕ) (row : Vec ClassId Global) → slice_get rows c ≡ Some row → AreLed links c row.items
+
+-- the rows have the proper supertypes of each class
+pub record HaveSupers (w : List Shape) (rows : List (Vec ClassId Global)) : Type 0 where
+  pub count : length rows ≡ length w
+  pub exact : (c : ℕ) (row : Vec ClassId Global) → slice_get rows c ≡ Some row → AreProperSupers w c row.items

@@ -7,9 +7,9 @@ use Rattle.std.specs.declared.alloc.Global.{Global}
 use Rattle.std.specs.declared.vec.Vec.{Vec}
 use Rattle.jv_types.specs.declared.ids.ClassId.{ClassId}
 use Rattle.jv_types.specs.declared.shapes.Shape.{Shape}
-use Rattle.jv_world.specs.Worlds.{object_name, IsNamed, IsInterface, IsFinal, HasRightSupers}
+use Rattle.jv_world.specs.Worlds.{object_name, IsNamed, IsInterface, IsFinal, HasRightSupers, NamesSuper}
 use Rattle.jv_world.specs.Refusals.{IsLeastName}
-use Rattle.jv_world.specs.Building.{Has, NamesSuper}
+use Rattle.jv_world.specs.Steps.Building.{Has}
 
 -- the lesser of the best name so far and this one
 abbrev pub lesser_name : Option (List ℕ) → List ℕ → Option (List ℕ)
