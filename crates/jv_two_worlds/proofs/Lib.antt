@@ -8,3 +8,4 @@ mod Resolving
 mod Accessing
 mod Overriding
 mod Selecting
+mod Instances

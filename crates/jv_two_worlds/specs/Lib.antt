@@ -1,2 +1,3 @@
 pub mod Renumbering
 pub mod Agreeing
+pub mod Types

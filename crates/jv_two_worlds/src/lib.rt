@@ -8,7 +8,7 @@ mod resolution;
 mod selection;
 
 pub use access::{access_agrees, packages_agree, refusals_agree};
-pub use hierarchy::{classes_agree, subtypes_agree, superclasses_agree};
+pub use hierarchy::{classes_agree, instances_agree, subtypes_agree, superclasses_agree};
 pub use resolution::{
     fields_resolve_alike, interface_methods_resolve_alike, methods_resolve_alike,
 };
