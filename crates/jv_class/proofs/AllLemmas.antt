@@ -9,14 +9,6 @@ pub all_from : {X : Type 0} (P Q : X → Type 0) → ((x : X) → P x → Q x) �
 all_from P Q f [] p = tt
 all_from P Q f (x ∷ xs) p = (f x p.0, all_from P Q f xs p.1)
 
-pub all_from_two : {X : Type 0} (P Q R : X → Type 0) → ((x : X) → P x → Q x → R x) → (xs : List X) → AllByRecursion P xs → AllByRecursion Q xs → AllByRecursion R xs
-all_from_two P Q R f [] p q = tt
-all_from_two P Q R f (x ∷ xs) p q = (f x p.0 q.0, all_from_two P Q R f xs p.1 q.1)
-
-pub all_from_three : {X : Type 0} (P Q R S : X → Type 0) → ((x : X) → P x → Q x → R x → S x) → (xs : List X) → AllByRecursion P xs → AllByRecursion Q xs → AllByRecursion R xs → AllByRecursion S xs
-all_from_three P Q R S f [] p q r = tt
-all_from_three P Q R S f (x ∷ xs) p q r = (f x p.0 q.0 r.0, all_from_three P Q R S f xs p.1 q.1 r.1)
-
 -- ---- loops that ask each item
 
 -- all of them were asked

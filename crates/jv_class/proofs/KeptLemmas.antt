@@ -10,7 +10,7 @@ use Rattle.jv_pool.specs.Lookups.{text_in, text_at}
 use Rattle.jv_names.specs.PoolNames.{HasText}
 use Rattle.jv_class.specs.declared.kinds.Kind.{Kind}
 use Rattle.jv_class.specs.declared.kinds.TextKinds.{TextKinds}
-use Rattle.jv_class.specs.Kinds.{IsOfKind, says, AreKindsOf, IsKeptOf, AreKept, kept_at}
+use Rattle.jv_class.specs.Steps.Kinds.{IsOfKind, says, AreKindsOf, IsKeptOf, AreKept, kept_at}
 
 -- ---- what is kept at an index
 

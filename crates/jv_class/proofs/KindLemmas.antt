@@ -10,7 +10,7 @@ use Rattle.jv_names.specs.Spellings.{IsCalledName, IsFieldDescriptor, IsTypeName
 use Rattle.jv_class.specs.declared.kinds.Kind.{Kind}
 use Rattle.jv_class.specs.declared.kinds.Kind.TheVariants.{TypeName, ClassName, FieldName, MethodName, CalledName, FieldDescriptor, StaticDescriptor, InstanceDescriptor}
 use Rattle.jv_class.specs.declared.kinds.TextKinds.{TextKinds}
-use Rattle.jv_class.specs.Kinds.{IsOfKind, says, AreKindsOf}
+use Rattle.jv_class.specs.Steps.Kinds.{IsOfKind, says, AreKindsOf}
 
 -- a text of a method is a descriptor exactly where its arguments are few enough
 pub few_words : (text : List ℕ) (d : MethodDesc) (receiver : Bool) (words : ℕ) → IsMethodText text d → words ≡ min (words_of d receiver) (2 ^ 32 - 1) → IsTrue (leb words 255) ↔ IsMethodDescriptor receiver text

@@ -1,22 +1,15 @@
 -- Texts that are numbered one after the other have one number exactly where they are equal.
-use Rattle.std.proofs.Common.{◌≡◌, ◌+◌, ◌<◌, ℕ, Bool, true, false, cond, List, [], ◌∷◌, ◌++◌, length, Option, Some, None, refl, sym, ap, ◌∙◌, arith, length-append, inl, inr, ◌⊎◌}
+use Rattle.std.proofs.Common.{◌≡◌, ◌+◌, ◌<◌, ℕ, Bool, true, false, cond, Bor, List, [], ◌∷◌, ◌++◌, length, Option, Some, None, refl, sym, ap, ◌∙◌, arith, length-append, inl, inr, ◌⊎◌}
 use Rattle.std.specs.Prelude.{unwrap_or}
 use Rattle.std.specs.List.{slice_get}
-use Rattle.std.specs.Ordering.{nat_cmp}
-use Rattle.std.specs.Cmp.Lexicographic.{slice_cmp}
 use Rattle.std.specs.Str.{bytes_eq}
-use Rattle.std.specs.BTreeMap.{BTreeMap, is_at, IsEmpty}
-use Rattle.std.proofs.lemmas.Map.Text.{is_eq-slice_cmp}
+use Rattle.std.specs.BTreeMap.{BTreeMap, IsEmpty}
 use Rattle.std.proofs.lemmas.Option.{slice_get_within}
 use Rattle.std.proofs.lemmas.Slice.Eq.{bytes_eq-Decides}
 use Rattle.std.proofs.lemmas.Bool.{false_from_ne_true}
 use Rattle.jv_pool.specs.declared.item.PoolItem.{PoolItem}
 use Rattle.jv_class.proofs.ListLemmas.{get_last, get_front, got}
-use Rattle.jv_class.specs.TextNumbers.{number_in, Numbers, NumbersItem, text_of, AreNumbers}
-
--- what an insertion of a number under a text leaves
-pub inserted : (old new : BTreeMap (List ℕ) ℕ) (text : List ℕ) (number : ℕ) → ((q : List ℕ) → number_in new q ≡ cond (is_at (slice_cmp nat_cmp text) q) (Some number) (number_in old q)) → Numbers old new text number
-inserted old new text number h other = h other ∙ ap (λ (b : Bool). cond b (Some number) (number_in old other)) (is_eq-slice_cmp text other)
+use Rattle.jv_class.specs.Steps.TextNumbers.{number_in, Numbers, NumbersItem, text_of, AreNumbers}
 
 -- ---- equations of options
 
@@ -33,12 +26,12 @@ no_some a e = cc
 
 -- ---- as far as the loop has come
 
-pub record SoFar (items : List PoolItem) (count : ℕ) (known : BTreeMap (List ℕ) ℕ) (numbers : List ℕ) : Type 0 where
+pub record SoFar (items : List PoolItem) (count : ℕ) (known : BTreeMap (Bor (List ℕ)) ℕ) (numbers : List ℕ) : Type 0 where
   pub len : length numbers ≡ count
   pub known_is : (j : ℕ) (a : List ℕ) → j < count → text_of items j ≡ Some a → slice_get numbers j ≡ number_in known a
   pub sound : (m : ℕ) (a : List ℕ) → number_in known a ≡ Some m → (m < count) × (text_of items m ≡ Some a)
 
-pub begins : (items : List PoolItem) (known : BTreeMap (List ℕ) ℕ) (numbers : List ℕ) → IsEmpty known → numbers ≡ [] → SoFar items 0 known numbers
+pub begins : (items : List PoolItem) (known : BTreeMap (Bor (List ℕ)) ℕ) (numbers : List ℕ) → IsEmpty known → numbers ≡ [] → SoFar items 0 known numbers
 begins items known numbers empty none = record {
   len = ap (length {A = ℕ}) none;
   known_is = λ j a lt e. absurd (omega arith);
@@ -50,7 +43,7 @@ split_last : (j i : ℕ) → j < i + 1 → (j < i) ⊎ (j ≡ i)
 split_last j i lt = grind arith
 
 -- an item without a text
-skips : (items : List PoolItem) (i : ℕ) (old new : BTreeMap (List ℕ) ℕ) (numbers : List ℕ) (number : ℕ) → SoFar items i old numbers → text_of items i ≡ None → NumbersItem old new None i number → SoFar items (i + 1) new (numbers ++ number ∷ [])
+skips : (items : List PoolItem) (i : ℕ) (old new : BTreeMap (Bor (List ℕ)) ℕ) (numbers : List ℕ) (number : ℕ) → SoFar items i old numbers → text_of items i ≡ None → NumbersItem old new None i number → SoFar items (i + 1) new (numbers ++ number ∷ [])
 skips items i old new numbers number s is h = record {
   len = let a = length-append numbers (number ∷ []) in let b = s.len in omega arith;
   known_is = λ j a lt e. elim (split_last j i lt) [
@@ -61,11 +54,11 @@ skips items i old new numbers number s is h = record {
 }
 
 -- the number of the text itself
-own_number : (old new : BTreeMap (List ℕ) ℕ) (text other : List ℕ) (number : ℕ) → Numbers old new text number → text ≡ other → number_in new other ≡ Some number
+own_number : (old new : BTreeMap (Bor (List ℕ)) ℕ) (text other : List ℕ) (number : ℕ) → Numbers old new text number → text ≡ other → number_in new other ≡ Some number
 own_number old new text other number h same =
     h other ∙ ap (λ (b : Bool). cond b (Some number) (number_in old other)) ((bytes_eq-Decides text other).1 same)
 
-other_number : (old new : BTreeMap (List ℕ) ℕ) (text other : List ℕ) (number : ℕ) → Numbers old new text number → (text ≡ other → ⊥) → number_in new other ≡ number_in old other
+other_number : (old new : BTreeMap (Bor (List ℕ)) ℕ) (text other : List ℕ) (number : ℕ) → Numbers old new text number → (text ≡ other → ⊥) → number_in new other ≡ number_in old other
 other_number old new text other number h differ =
     h other ∙ ap (λ (b : Bool). cond b (Some number) (number_in old other)) (false_from_ne_true (bytes_eq text other) (λ e. differ ((bytes_eq-Decides text other).0 e)))
 
@@ -78,11 +71,11 @@ same_or_not a b = by_test (bytes_eq a b) refl
     by_test false e = inr (λ same. let both : true ≡ false = sym ((bytes_eq-Decides a b).1 same) ∙ e in absurd cc)
 
 -- a text that has a number keeps it
-keeps : (old : BTreeMap (List ℕ) ℕ) (text : List ℕ) (i number m : ℕ) → number ≡ unwrap_or (number_in old text) i → number_in old text ≡ Some m → number ≡ m
+keeps : (old : BTreeMap (Bor (List ℕ)) ℕ) (text : List ℕ) (i number m : ℕ) → number ≡ unwrap_or (number_in old text) i → number_in old text ≡ Some m → number ≡ m
 keeps old text i number m is e = is ∙ ap (λ (o : Option ℕ). unwrap_or o i) e
 
 -- an item with a text
-takes : (items : List PoolItem) (i : ℕ) (old new : BTreeMap (List ℕ) ℕ) (numbers : List ℕ) (number : ℕ) (text : List ℕ) → SoFar items i old numbers → text_of items i ≡ Some text → NumbersItem old new (Some text) i number → SoFar items (i + 1) new (numbers ++ number ∷ [])
+takes : (items : List PoolItem) (i : ℕ) (old new : BTreeMap (Bor (List ℕ)) ℕ) (numbers : List ℕ) (number : ℕ) (text : List ℕ) → SoFar items i old numbers → text_of items i ≡ Some text → NumbersItem old new (Some text) i number → SoFar items (i + 1) new (numbers ++ number ∷ [])
 takes items i old new numbers number text s is h = record {
   len = let a = length-append numbers (number ∷ []) in let b = s.len in omega arith;
   known_is = λ j a lt e. elim (split_last j i lt) [
@@ -116,11 +109,11 @@ takes items i old new numbers number text s is h = record {
         let m_is : m ≡ i = sym number_is ∙ h.0 ∙ ap (λ (o : Option ℕ). unwrap_or o i) had in
         (omega arith, ap (text_of items) m_is ∙ is ∙ ap (λ (x : List ℕ). Some x) same)
 
-pub goes_on : (items : List PoolItem) (i : ℕ) (old new : BTreeMap (List ℕ) ℕ) (numbers : List ℕ) (number : ℕ) (o : Option (List ℕ)) → SoFar items i old numbers → text_of items i ≡ o → NumbersItem old new o i number → SoFar items (i + 1) new (numbers ++ number ∷ [])
+pub goes_on : (items : List PoolItem) (i : ℕ) (old new : BTreeMap (Bor (List ℕ)) ℕ) (numbers : List ℕ) (number : ℕ) (o : Option (List ℕ)) → SoFar items i old numbers → text_of items i ≡ o → NumbersItem old new o i number → SoFar items (i + 1) new (numbers ++ number ∷ [])
 goes_on items i old new numbers number (Some text) s is h = takes items i old new numbers number text s is h
 goes_on items i old new numbers number None s is h = skips items i old new numbers number s is h
 
-pub is_done : (items : List PoolItem) (i : ℕ) (known : BTreeMap (List ℕ) ℕ) (numbers : List ℕ) → length items ≡ i → SoFar items i known numbers → AreNumbers items numbers
+pub is_done : (items : List PoolItem) (i : ℕ) (known : BTreeMap (Bor (List ℕ)) ℕ) (numbers : List ℕ) → length items ≡ i → SoFar items i known numbers → AreNumbers items numbers
 is_done items i known numbers all s = record {
   len = s.len ∙ sym all;
   same = λ j k m a b ta tb na nb.

@@ -1,10 +1,10 @@
 -- The text of a class file (JVMS 4.1): what a class value must be, and the one string of bytes that it
 -- stands for.
 use Rattle.std.specs.Prelude.{◌≡◌, ◌<◌, ◌+◌, ◌^◌, ◌⊎◌, ℕ, Bool, true, false, not, ◌||◌, ◌&&◌, ◌==◌, if◌then◌else◌, List, ◌++◌, length, Some, count_by, bit_and}
-use Rattle.std.specs.List.{slice_get, AllByRecursion}
+use Rattle.std.specs.List.{slice_get, flat_map, AllByRecursion}
 use Rattle.jv_pool.specs.declared.item.PoolItem.{PoolItem}
 use Rattle.jv_pool.specs.Lookups.{text_at}
-use Rattle.jv_pool.specs.PoolText.{IsPool, IsShort as IsShortItem, pool_text}
+use Rattle.jv_pool.specs.PoolText.{u2, u4, IsPool, IsShort as IsShortItem, pool_text}
 use Rattle.jv_attr.specs.declared.attr.Attr.{Attr}
 use Rattle.jv_attr.specs.declared.attr.AttrBody.{AttrBody}
 use Rattle.jv_attr.specs.declared.attr.AttrBody.TheVariants.{Code, Maps, Raw}
@@ -16,10 +16,16 @@ use Rattle.jv_names.specs.Spellings.{IsFieldName, IsMethodName, IsFieldDescripto
 use Rattle.jv_names.specs.PoolNames.{HasText, HasClassName, IsNamedPool}
 use Rattle.jv_class.specs.declared.class_file.Member.{Member}
 use Rattle.jv_class.specs.declared.class_file.ClassFile.{ClassFile}
-use Rattle.jv_class.specs.Numbers.{IsU2, u2, u4}
-use Rattle.jv_class.specs.Counted.{counted_text}
 
 -- ---- the bytes
+
+-- a number that two bytes hold
+abbrev pub IsU2 : ℕ → Type 0
+IsU2 number = number < 2 ^ 16
+
+-- a count of two bytes, and the texts of as many items
+abbrev pub counted_text : {X : Type 0} → (X → List ℕ) → List X → List ℕ
+counted_text text items = u2 (length items) ++ flat_map text items
 
 -- a field (JVMS 4.5) or a method (JVMS 4.6)
 abbrev pub member_text : Member → List ℕ
@@ -53,8 +59,8 @@ is_code_body (Code c) = true
 is_code_body (Maps frames) = false
 is_code_body (Raw bytes) = false
 
-abbrev pub is_code : Attr CodeAttr → Bool
-is_code a = is_code_body a.body
+abbrev pub has_code : Attr CodeAttr → Bool
+has_code a = is_code_body a.body
 
 -- the numbers of a member fit two bytes, and its attributes are those of its owner
 pub record IsMember (items : List PoolItem) (o : owners.Owner) (major : ℕ) (m : Member) : Type 0 where
@@ -75,7 +81,7 @@ pub record IsMethodMember (items : List PoolItem) (m : Member) : Type 0 where
   pub name : HasText items m.name IsMethodName
   pub descriptor : HasText items m.desc (IsMethodDescriptor (not (is_static m)))
   pub flags : (is_static m && is_abstract m) ≡ false
-  pub code : count_by is_code m.attrs ≡ (if is_native m || is_abstract m then 0 else 1)
+  pub code : count_by has_code m.attrs ≡ (if is_native m || is_abstract m then 0 else 1)
 
 -- no two of them share name and descriptor (JVMS 4.5, 4.6)
 abbrev pub AreDistinct : List PoolItem → List Member → Type 0

@@ -1,13 +1,5 @@
-pub mod Numbers
-pub mod Counted
 pub mod ClassTexts
-pub mod PartReading
-pub mod LayoutReading
-pub mod Kinds
-pub mod TextNumbers
-pub mod PoolTexts
-pub mod MemberPairs
 pub mod MethodCodes
-pub mod RuleParts
 pub mod Shapes
 pub mod Writing
+pub mod Steps

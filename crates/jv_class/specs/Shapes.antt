@@ -10,7 +10,7 @@ use Rattle.jv_pool.specs.Lookups.{text_at, class_name_at}
 use Rattle.jv_names.specs.PoolNames.{HasText}
 use Rattle.jv_class.specs.declared.class_file.Member.{Member}
 use Rattle.jv_class.specs.declared.class_file.ClassFile.{ClassFile}
-use Rattle.jv_class.specs.ClassTexts.{is_code}
+use Rattle.jv_class.specs.ClassTexts.{has_code}
 
 -- the field that a member declares
 pub record IsFieldShape (items : List PoolItem) (m : Member) (f : FieldShape) : Type 0 where
@@ -23,7 +23,7 @@ pub record IsMethodShape (items : List PoolItem) (m : Member) (s : MethodShape) 
   pub name : text_at items m.name ≡ Some s.name
   pub desc : HasText items m.desc (λ text. IsMethodText text s.desc)
   pub flags : s.flags.0 ≡ m.access
-  pub code : s.code ≡ list_any is_code m.attrs
+  pub code : s.code ≡ list_any has_code m.attrs
 
 -- the superclass, where there is one
 abbrev pub IsParent : List PoolItem → ℕ → Option (List ℕ) → Type 0

@@ -1,13 +1,11 @@
-ghost use Rattle.std.specs.Prelude.{◌≡◌, IfOk};
-ghost use Rattle.jv_attr.specs.AttrText.{attr_text};
-ghost use Rattle.jv_class.specs.LayoutReading.{IsWholeAttr, AreWholeAttrs, attrs_text};
-ghost use Rattle.jv_class.specs.PartReading.{Reads, Refuses, ReadsAll, RefusesAll};
+ghost use Rattle.jv_attr.specs.Steps.AttrReading.{attr_at};
+ghost use Rattle.jv_class.specs.Steps.LayoutReading.{attrs_at};
+ghost use Rattle.jv_read.specs.Reading.{Gives};
 
-use crate::fault::BadClass;
-use crate::number::read_u2;
 use jv_attr::{Attr, BadAttr, Owner, read_attr};
 use jv_bytes::Cursor;
 use jv_pool::Pool;
+use jv_read::{Part, ReadFault, read_counted};
 use jv_types::Seq;
 use std::alloc::Global;
 
@@ -18,37 +16,33 @@ fn read_one(
     pool: &Pool,
     owner: Owner,
     major: u16,
-) -> Result<Attr, BadClass>
-    ensures found { IfOk result (λ attr. Reads (IsWholeAttr pool.now owner major) attr_text cursor.old attr cursor.new) }
-    ensures bad { result ≡ Err BadClass.NotClass → Refuses (IsWholeAttr pool.now owner major) attr_text cursor.old }
+) -> Result<Attr, ReadFault>
+    ensures { Gives (λ x. x) result cursor.new (attr_at pool.now owner major cursor.old) }
 {
     match read_attr(alloc, cursor, pool, owner, major) {
         Ok(attr) => Ok(attr),
-        Err(BadAttr::Bad) => Err(BadClass::NotClass),
-        Err(BadAttr::Memory) => Err(BadClass::Memory),
+        Err(BadAttr::Bad) => Err(ReadFault::Bad),
+        Err(BadAttr::Memory) => Err(ReadFault::Memory),
     }
 }
 
-/// As many attributes of this owner.
-fn read_as_many(
+/// The attributes of an owner, read one by one.
+#[derive(Clone, Copy)]
+struct AttrPart<'p> {
     alloc: Global,
-    cursor: &mut Cursor,
-    pool: &Pool,
+    pool: &'p Pool,
     owner: Owner,
     major: u16,
-    count: u16,
-) -> Result<Vec<Attr>, BadClass>
-    ensures found { IfOk result (λ attrs.
-        ReadsAll (IsWholeAttr pool.now owner major) attr_text count cursor.old attrs.items cursor.new) }
-    ensures bad { result ≡ Err BadClass.NotClass →
-        RefusesAll (IsWholeAttr pool.now owner major) attr_text count cursor.old }
-{
-    let mut attrs = Vec::new(alloc);
-    for _ in 0..count {
-        let attr = read_one(alloc, cursor, pool, owner, major)?;
-        attrs.push(attr)?;
+}
+
+impl Part for AttrPart<'_> {
+    type Item = Attr;
+
+    ghost part_at = { λ p bytes. attr_at p.pool.now p.owner p.major bytes };
+
+    fn read(&self, cursor: &mut Cursor) -> Result<Attr, ReadFault> {
+        read_one(self.alloc, cursor, self.pool, self.owner, self.major)
     }
-    Ok(attrs)
 }
 
 /// A count, and as many attributes of this owner (JVMS 4.7).
@@ -58,12 +52,15 @@ pub fn read_attrs(
     pool: &Pool,
     owner: Owner,
     major: u16,
-) -> Result<Seq<Attr>, BadClass>
-    ensures found { IfOk result (λ attrs.
-        Reads (AreWholeAttrs pool.now owner major) attrs_text cursor.old attrs cursor.new) }
-    ensures bad { result ≡ Err BadClass.NotClass → Refuses (AreWholeAttrs pool.now owner major) attrs_text cursor.old }
+) -> Result<Seq<Attr>, ReadFault>
+    ensures { Gives (λ x. x) result cursor.new (attrs_at pool.now owner major cursor.old) }
 {
-    let count = read_u2(cursor)?;
-    let attrs = read_as_many(alloc, cursor, pool, owner, major, count)?;
+    let part = AttrPart {
+        alloc,
+        pool,
+        owner,
+        major,
+    };
+    let attrs = read_counted(alloc, cursor, &part)?;
     Ok(Seq::from_vec(attrs))
 }

@@ -1,12 +1,12 @@
 ghost use Rattle.std.specs.Prelude.{◌≡◌, count_by};
 ghost use Rattle.std.specs.List.{list_any};
-ghost use Rattle.jv_class.specs.ClassTexts.{is_code};
+ghost use Rattle.jv_class.specs.ClassTexts.{has_code};
 
 use jv_attr::{Attr, AttrBody};
 
 /// Whether an attribute is a method's code.
-fn is_code(attr: &Attr) -> bool
-    ensures { result ≡ is_code attr.now }
+fn has_code(attr: &Attr) -> bool
+    ensures { result ≡ has_code attr.now }
 {
     match &attr.body {
         AttrBody::Code(_) => true,
@@ -16,11 +16,11 @@ fn is_code(attr: &Attr) -> bool
 
 /// How many attributes are a method's code.
 pub fn code_count(attrs: &[Attr]) -> usize
-    ensures { result ≡ count_by is_code attrs.now }
+    ensures { result ≡ count_by has_code attrs.now }
 {
     let mut count = 0;
     for attr in attrs {
-        if is_code(attr) {
+        if has_code(attr) {
             count += 1;
         }
     }
@@ -28,8 +28,8 @@ pub fn code_count(attrs: &[Attr]) -> usize
 }
 
 /// Whether one of the attributes is a method's code.
-pub fn has_code(attrs: &[Attr]) -> bool
-    ensures { result ≡ list_any is_code attrs.now }
+pub fn any_code(attrs: &[Attr]) -> bool
+    ensures { result ≡ list_any has_code attrs.now }
 {
-    attrs.iter().any(is_code)
+    attrs.iter().any(has_code)
 }

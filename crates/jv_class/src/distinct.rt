@@ -1,7 +1,7 @@
 ghost use Rattle.std.specs.Prelude.{◌≡◌, ◌↔◌, not, IsTrue, IfOk, OnOk};
 ghost use Rattle.jv_class.specs.ClassTexts.{AreDistinct};
-ghost use Rattle.jv_class.specs.MemberPairs.{number_at, pair_of, has, Adds, HaveTexts};
-ghost use Rattle.jv_class.specs.TextNumbers.{AreNumbers};
+ghost use Rattle.jv_class.specs.Steps.MemberPairs.{number_at, pair_of, has, Adds, HaveTexts};
+ghost use Rattle.jv_class.specs.Steps.TextNumbers.{AreNumbers};
 
 use crate::class_file::Member;
 use jv_pool::Pool;

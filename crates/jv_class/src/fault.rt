@@ -1,8 +1,3 @@
-ghost use Rattle.std.specs.Prelude.{◌≡◌};
-ghost use Rattle.jv_class.specs.declared.fault.BadClass.TheVariants.{Memory};
-ghost use Rattle.jv_class.specs.declared.fault.WriteRefusal.TheVariants as write;
-
-use std::alloc::{AllocError, AllocFailed};
 use thiserror::Error;
 
 /// Why bytes were not read as a class file.
@@ -14,22 +9,6 @@ pub enum BadClass {
     /// Memory is wanting.
     #[error("out of memory")]
     Memory,
-}
-
-impl From<AllocError> for BadClass {
-    ghost from_gives = { λ _ e. e ≡ Memory };
-
-    fn from(_e: AllocError) -> BadClass {
-        BadClass::Memory
-    }
-}
-
-impl<T: Drop> From<AllocFailed<T>> for BadClass {
-    ghost from_gives = { λ _ e. e ≡ Memory };
-
-    fn from(_e: AllocFailed<T>) -> BadClass {
-        BadClass::Memory
-    }
 }
 
 /// Why a class was not written.
@@ -47,12 +26,4 @@ pub enum WriteRefusal {
     /// Memory is wanting.
     #[error("out of memory")]
     Memory,
-}
-
-impl From<AllocError> for WriteRefusal {
-    ghost from_gives = { λ _ e. e ≡ write.Memory };
-
-    fn from(_e: AllocError) -> WriteRefusal {
-        WriteRefusal::Memory
-    }
 }

@@ -1,5 +1,5 @@
 ghost use Rattle.std.specs.Prelude.{◌≡◌, ◌↔◌, true, false, IsTrue, IfOk};
-ghost use Rattle.jv_class.specs.Kinds.{says, AreKindsOf};
+ghost use Rattle.jv_class.specs.Steps.Kinds.{says, AreKindsOf};
 ghost use Rattle.jv_names.specs.Spellings.{IsCalledName, IsFieldDescriptor, IsArrayDescriptor, IsTypeName, IsMethodDescriptor};
 
 use jv_desc::{BadDesc, arg_words, field_desc, method_desc};

@@ -1,19 +1,16 @@
-ghost use Rattle.std.specs.Prelude.{◌≡◌, ◌++◌, ℕ, List, IfOk, OnOk};
-ghost use Rattle.jv_class.specs.declared.class_file.ClassFile.{ClassFile as Classes};
-ghost use Rattle.jv_class.specs.LayoutReading.{IsWholePool, IsOpening, opening_text, AreDeclarations, declarations_text, IsLaidOut};
-ghost use Rattle.jv_class.specs.Numbers.{u4};
-ghost use Rattle.jv_class.specs.PartReading.{Reads, Refuses};
-ghost use Rattle.jv_pool.specs.PoolText.{pool_text};
+ghost use Rattle.jv_class.specs.Steps.LayoutReading.{magic_at, opening_at, declarations_at, joined, class_at, layout_at};
+ghost use Rattle.jv_pool.specs.Steps.PoolReading.{pool_at};
+ghost use Rattle.jv_read.specs.Reading.{Gives, GivesAll};
+ghost use Rattle.std.specs.Prelude.{◌≡◌};
 
 use crate::attributes::read_attrs;
 use crate::class_file::{ClassFile, Member};
-use crate::fault::BadClass;
 use crate::indices::read_indices;
 use crate::members::read_members;
-use crate::number::read_u2;
 use jv_attr::{Attr, Owner};
 use jv_bytes::Cursor;
 use jv_pool::{BadPool, Pool, read_pool};
+use jv_read::{ReadFault, read_u2, read_u4};
 use jv_types::Seq;
 use std::alloc::Global;
 
@@ -41,38 +38,32 @@ struct Declarations {
 }
 
 /// The number that each class file begins with.
-fn read_magic(cursor: &mut Cursor) -> Result<(), BadClass>
-    ensures found { OnOk result (cursor.old ≡ u4 0xCAFEBABE ++ cursor.new) }
-    ensures bad { result ≡ Err BadClass.NotClass → (rest : List ℕ) → cursor.old ≡ u4 0xCAFEBABE ++ rest → ⊥ }
+#[tactic(auto, unfolding(crate::specs::Steps::LayoutReading::magic_at))]
+fn read_magic(cursor: &mut Cursor) -> Result<u32, ReadFault>
+    ensures { Gives (λ x. x) result cursor.new (magic_at cursor.old) }
 {
-    match cursor.u4() {
-        Some(number) => {
-            if number == MAGIC {
-                Ok(())
-            } else {
-                Err(BadClass::NotClass)
-            }
-        }
-        None => Err(BadClass::NotClass),
+    let number = read_u4(cursor)?;
+    if number != MAGIC {
+        return Err(ReadFault::Bad);
     }
+    Ok(number)
 }
 
 /// The constant pool (JVMS 4.4).
-fn read_items(alloc: Global, cursor: &mut Cursor) -> Result<Pool, BadClass>
-    ensures found { IfOk result (λ pool. Reads IsWholePool pool_text cursor.old pool cursor.new) }
-    ensures bad { result ≡ Err BadClass.NotClass → Refuses IsWholePool pool_text cursor.old }
+fn read_items(alloc: Global, cursor: &mut Cursor) -> Result<Pool, ReadFault>
+    ensures { Gives (λ x. x) result cursor.new (pool_at cursor.old) }
 {
     match read_pool(alloc, cursor) {
         Ok(pool) => Ok(pool),
-        Err(BadPool::Bad) => Err(BadClass::NotClass),
-        Err(BadPool::Memory) => Err(BadClass::Memory),
+        Err(BadPool::Bad) => Err(ReadFault::Bad),
+        Err(BadPool::Memory) => Err(ReadFault::Memory),
     }
 }
 
 /// The magic number, the versions and the pool.
-fn read_opening(alloc: Global, cursor: &mut Cursor) -> Result<Opening, BadClass>
-    ensures found { IfOk result (λ opening. Reads IsOpening opening_text cursor.old opening cursor.new) }
-    ensures bad { result ≡ Err BadClass.NotClass → Refuses IsOpening opening_text cursor.old }
+#[tactic(auto, unfolding(crate::specs::Steps::LayoutReading::opening_at))]
+fn read_opening(alloc: Global, cursor: &mut Cursor) -> Result<Opening, ReadFault>
+    ensures { Gives (λ x. x) result cursor.new (opening_at cursor.old) }
 {
     read_magic(cursor)?;
     let minor = read_u2(cursor)?;
@@ -82,15 +73,14 @@ fn read_opening(alloc: Global, cursor: &mut Cursor) -> Result<Opening, BadClass>
 }
 
 /// The access flags, the class, its superclass, interfaces, fields, methods and attributes.
+#[tactic(auto, unfolding(crate::specs::Steps::LayoutReading::declarations_at))]
 fn read_declarations(
     alloc: Global,
     cursor: &mut Cursor,
     pool: &Pool,
     major: u16,
-) -> Result<Declarations, BadClass>
-    ensures found { IfOk result (λ found.
-        Reads (AreDeclarations pool.now major) declarations_text cursor.old found cursor.new) }
-    ensures bad { result ≡ Err BadClass.NotClass → Refuses (AreDeclarations pool.now major) declarations_text cursor.old }
+) -> Result<Declarations, ReadFault>
+    ensures { Gives (λ x. x) result cursor.new (declarations_at pool.now major cursor.old) }
 {
     let access = read_u2(cursor)?;
     let this_class = read_u2(cursor)?;
@@ -112,18 +102,7 @@ fn read_declarations(
 
 /// The class of these parts.
 fn joined(opening: Opening, found: Declarations) -> ClassFile
-    ensures { result ≡ record {
-      minor = opening.minor;
-      major = opening.major;
-      pool = opening.pool;
-      access = found.access;
-      this_class = found.this_class;
-      super_class = found.super_class;
-      interfaces = found.interfaces;
-      fields = found.fields;
-      methods = found.methods;
-      attrs = found.attrs;
-    } }
+    ensures { result ≡ joined opening found }
 {
     ClassFile {
         minor: opening.minor,
@@ -139,16 +118,25 @@ fn joined(opening: Opening, found: Declarations) -> ClassFile
     }
 }
 
-/// The class that all of the bytes lay out, whether or not it keeps the rules on names.
-pub fn read_layout(alloc: Global, bytes: &[u8]) -> Result<ClassFile, BadClass>
-    ensures found { IfOk result (λ class. IsLaidOut class bytes.now) }
-    ensures bad { result ≡ Err BadClass.NotClass → (class : Classes) → IsLaidOut class bytes.now → ⊥ }
+/// A class by its layout alone.
+#[tactic(auto, unfolding(crate::specs::Steps::LayoutReading::class_at))]
+fn read_parts(alloc: Global, cursor: &mut Cursor) -> Result<ClassFile, ReadFault>
+    ensures { Gives (λ x. x) result cursor.new (class_at cursor.old) }
+{
+    let opening = read_opening(alloc, cursor)?;
+    let found = read_declarations(alloc, cursor, &opening.pool, opening.major)?;
+    Ok(joined(opening, found))
+}
+
+/// The class that all of the bytes lay out, whether or not it keeps the rules.
+#[tactic(auto, unfolding(crate::specs::Steps::LayoutReading::layout_at))]
+pub fn read_layout(alloc: Global, bytes: &[u8]) -> Result<ClassFile, ReadFault>
+    ensures { GivesAll (λ x. x) result (layout_at bytes.now) }
 {
     let mut cursor = Cursor::new(bytes);
-    let opening = read_opening(alloc, &mut cursor)?;
-    let found = read_declarations(alloc, &mut cursor, &opening.pool, opening.major)?;
+    let class = read_parts(alloc, &mut cursor)?;
     if cursor.left() != 0 {
-        return Err(BadClass::NotClass);
+        return Err(ReadFault::Bad);
     }
-    Ok(joined(opening, found))
+    Ok(class)
 }

@@ -1,7 +1,7 @@
 ghost use Rattle.std.specs.Prelude.{◌≡◌, ◌↔◌, ◌&&◌, ◌||◌, false, not, IsTrue, count_by, if◌then◌else◌};
 ghost use Rattle.std.specs.List.{AllByRecursion};
-ghost use Rattle.jv_class.specs.ClassTexts.{has_flag, is_static, is_native, is_abstract, is_code, IsField, IsMethodMember};
-ghost use Rattle.jv_class.specs.Kinds.{IsOfKind, AreKept};
+ghost use Rattle.jv_class.specs.ClassTexts.{has_flag, is_static, is_native, is_abstract, has_code, IsField, IsMethodMember};
+ghost use Rattle.jv_class.specs.Steps.Kinds.{IsOfKind, AreKept};
 ghost use Rattle.jv_names.specs.PoolNames.{HasText, HasClassName};
 ghost use Rattle.jv_names.specs.Spellings.{IsMethodDescriptor};
 
@@ -36,7 +36,7 @@ fn is_abstract(member: &Member) -> bool
 
 /// Whether the method has one code, or none where it is native or abstract (JVMS 4.7.3).
 fn has_its_code(member: &Member) -> bool
-    ensures { IsTrue result ↔ (count_by is_code member.now.attrs ≡
+    ensures { IsTrue result ↔ (count_by has_code member.now.attrs ≡
         (if is_native member.now || is_abstract member.now then 0 else 1)) }
 {
     let wanted = if is_native(member) || is_abstract(member) {

@@ -1,29 +1,25 @@
-ghost use Rattle.std.specs.Prelude.{◌≡◌, IfOk};
-ghost use Rattle.jv_class.specs.ClassTexts.{member_text};
-ghost use Rattle.jv_class.specs.LayoutReading.{IsWholeMember, AreWholeMembers, members_text};
-ghost use Rattle.jv_class.specs.PartReading.{Reads, Refuses, ReadsAll, RefusesAll};
+ghost use Rattle.jv_class.specs.Steps.LayoutReading.{member_at, members_at};
+ghost use Rattle.jv_read.specs.Reading.{Gives};
 
 use crate::attributes::read_attrs;
 use crate::class_file::Member;
-use crate::fault::BadClass;
-use crate::number::read_u2;
 use jv_attr::Owner;
 use jv_bytes::Cursor;
 use jv_pool::Pool;
+use jv_read::{Part, ReadFault, read_counted, read_u2};
 use jv_types::Seq;
 use std::alloc::Global;
 
 /// A field (JVMS 4.5) or a method (JVMS 4.6).
+#[tactic(auto, unfolding(crate::specs::Steps::LayoutReading::member_at))]
 fn read_member(
     alloc: Global,
     cursor: &mut Cursor,
     pool: &Pool,
     owner: Owner,
     major: u16,
-) -> Result<Member, BadClass>
-    ensures found { IfOk result (λ member.
-        Reads (IsWholeMember pool.now owner major) member_text cursor.old member cursor.new) }
-    ensures bad { result ≡ Err BadClass.NotClass → Refuses (IsWholeMember pool.now owner major) member_text cursor.old }
+) -> Result<Member, ReadFault>
+    ensures { Gives (λ x. x) result cursor.new (member_at pool.now owner major cursor.old) }
 {
     let access = read_u2(cursor)?;
     let name = read_u2(cursor)?;
@@ -37,26 +33,23 @@ fn read_member(
     })
 }
 
-/// As many fields or methods.
-fn read_as_many(
+/// Fields or methods, read one by one.
+#[derive(Clone, Copy)]
+struct MemberPart<'p> {
     alloc: Global,
-    cursor: &mut Cursor,
-    pool: &Pool,
+    pool: &'p Pool,
     owner: Owner,
     major: u16,
-    count: u16,
-) -> Result<Vec<Member>, BadClass>
-    ensures found { IfOk result (λ members.
-        ReadsAll (IsWholeMember pool.now owner major) member_text count cursor.old members.items cursor.new) }
-    ensures bad { result ≡ Err BadClass.NotClass →
-        RefusesAll (IsWholeMember pool.now owner major) member_text count cursor.old }
-{
-    let mut members = Vec::new(alloc);
-    for _ in 0..count {
-        let member = read_member(alloc, cursor, pool, owner, major)?;
-        members.push(member)?;
+}
+
+impl Part for MemberPart<'_> {
+    type Item = Member;
+
+    ghost part_at = { λ p bytes. member_at p.pool.now p.owner p.major bytes };
+
+    fn read(&self, cursor: &mut Cursor) -> Result<Member, ReadFault> {
+        read_member(self.alloc, cursor, self.pool, self.owner, self.major)
     }
-    Ok(members)
 }
 
 /// A count, and as many fields or methods (JVMS 4.1).
@@ -66,12 +59,15 @@ pub fn read_members(
     pool: &Pool,
     owner: Owner,
     major: u16,
-) -> Result<Seq<Member>, BadClass>
-    ensures found { IfOk result (λ members.
-        Reads (AreWholeMembers pool.now owner major) members_text cursor.old members cursor.new) }
-    ensures bad { result ≡ Err BadClass.NotClass → Refuses (AreWholeMembers pool.now owner major) members_text cursor.old }
+) -> Result<Seq<Member>, ReadFault>
+    ensures { Gives (λ x. x) result cursor.new (members_at pool.now owner major cursor.old) }
 {
-    let count = read_u2(cursor)?;
-    let members = read_as_many(alloc, cursor, pool, owner, major, count)?;
+    let part = MemberPart {
+        alloc,
+        pool,
+        owner,
+        major,
+    };
+    let members = read_counted(alloc, cursor, &part)?;
     Ok(Seq::from_vec(members))
 }

@@ -1,7 +1,7 @@
 ghost use Rattle.std.specs.Prelude.{◌≡◌, ◌⊎◌, ◌↔◌, IsTrue, IfOk};
 ghost use Rattle.jv_class.specs.ClassTexts.{KeepsRules};
-ghost use Rattle.jv_class.specs.Kinds.{AreKept};
-ghost use Rattle.jv_class.specs.RuleParts.{NamesRight, HasDistinct};
+ghost use Rattle.jv_class.specs.Steps.Kinds.{AreKept};
+ghost use Rattle.jv_class.specs.Steps.RuleParts.{NamesRight, HasDistinct};
 ghost use Rattle.jv_names.specs.PoolNames.{HasClassName};
 
 use crate::class_file::ClassFile;

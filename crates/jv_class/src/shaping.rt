@@ -1,7 +1,7 @@
 ghost use Rattle.std.specs.Prelude.{◌≡◌, ◌⊎◌, IfOk, Some};
 ghost use Rattle.std.specs.List.{AllZip, AllByRecursion};
 ghost use Rattle.jv_class.specs.ClassTexts.{IsField, IsMethodMember, IsClass};
-ghost use Rattle.jv_class.specs.PoolTexts.{IsText};
+ghost use Rattle.jv_class.specs.Steps.PoolTexts.{NamesText};
 ghost use Rattle.jv_class.specs.Shapes.{IsFieldShape, IsMethodShape, IsParent, IsShapeOf};
 ghost use Rattle.jv_types.specs.declared.desc.MethodDesc.{MethodDesc as Methods};
 ghost use Rattle.jv_desc.specs.Texts.{IsFieldText, IsMethodText};
@@ -10,7 +10,7 @@ ghost use Rattle.jv_names.specs.Spellings.{IsFieldDescriptor, IsMethodDescriptor
 ghost use Rattle.jv_pool.specs.Lookups.{text_at, class_name_at};
 
 use crate::class_file::{ClassFile, Member};
-use crate::codes::has_code;
+use crate::codes::any_code;
 use jv_desc::{BadDesc, field_desc, method_desc};
 use jv_pool::{Pool, PoolItem};
 use jv_types::{Access, Desc, FieldShape, MethodDesc, MethodShape, Name, Seq, Shape};
@@ -18,7 +18,7 @@ use std::alloc::{AllocError, Global};
 
 /// The text at an index of the pool.
 fn text_at(pool: &Pool, index: u16) -> &[u8]
-    requires { IsText pool.now index }
+    requires { NamesText pool.now index }
     ensures { text_at pool.now index ≡ Some result.now }
 {
     match pool.item(index) {
@@ -100,7 +100,7 @@ fn method_of(alloc: Global, pool: &Pool, member: &Member) -> Result<MethodShape,
         name,
         desc,
         flags: Access(member.access),
-        code: has_code(member.attrs.as_slice()),
+        code: any_code(member.attrs.as_slice()),
     })
 }
 

@@ -1,32 +1,30 @@
 ghost use Rattle.std.specs.Prelude.{◌≡◌, IfOk, unwrap_or};
-ghost use Rattle.jv_class.specs.TextNumbers.{number_in, Numbers, NumbersItem, AreNumbers};
+ghost use Rattle.jv_class.specs.Steps.TextNumbers.{number_in, Numbers, NumbersItem, AreNumbers};
 ghost use Rattle.jv_pool.specs.Lookups.{text_in};
 
-use crate::text_key::TextKey;
 use jv_pool::{Pool, PoolItem};
 use std::alloc::{AllocError, Global};
 use std::collections::BTreeMap;
 
 /// The number of a text: the one that an equal text has, and else this new one.
 fn number_of<'a>(
-    numbers: &mut BTreeMap<TextKey<'a>, usize>,
+    numbers: &mut BTreeMap<&'a [u8], usize>,
     text: &'a [u8],
     new: usize,
 ) -> Result<usize, AllocError>
     ensures number { IfOk result (λ number. number ≡ unwrap_or (number_in numbers.old text.now) new) }
     ensures kept { IfOk result (λ number. Numbers numbers.old numbers.new text.now number) }
 {
-    let key = TextKey::new(text);
-    if let Some(number) = numbers.get(&key) {
+    if let Some(number) = numbers.get(text) {
         return Ok(*number);
     }
-    numbers.insert(key, new)?;
+    numbers.insert(text, new)?;
     Ok(new)
 }
 
 /// The number of an item: that of its text, and else this new one.
 fn number_item<'a>(
-    numbers: &mut BTreeMap<TextKey<'a>, usize>,
+    numbers: &mut BTreeMap<&'a [u8], usize>,
     item: &'a PoolItem,
     new: usize,
 ) -> Result<usize, AllocError>

@@ -1,5 +1,5 @@
 ghost use Rattle.std.specs.Prelude.{◌≡◌, ◌↔◌, IsTrue, IfOk};
-ghost use Rattle.jv_class.specs.Kinds.{IsOfKind, IsKeptOf, AreKept, kept_at};
+ghost use Rattle.jv_class.specs.Steps.Kinds.{IsOfKind, IsKeptOf, AreKept, kept_at};
 ghost use Rattle.jv_names.specs.PoolNames.{HasText, HasClassName, HasNames, IsNamedItem, IsNamedPool};
 
 use crate::kinds::{Kind, TextKinds, kinds_of};

@@ -1,11 +1,10 @@
 ghost use Rattle.std.specs.Prelude.{◌≡◌, ◌<◌, ◌^◌, ◌++◌, ℕ, List, length, IfOk, OnOk, MatchResult};
 ghost use Rattle.std.specs.List.{flat_map, AllByRecursion};
 ghost use Rattle.jv_attr.specs.AttrText.{HasFew, IsShort, attr_text};
-ghost use Rattle.jv_class.specs.ClassTexts.{member_text, class_text, IsClass, IsFewMember, HasFewItems, HasFewParts, HasShortParts, ClassText};
-ghost use Rattle.jv_class.specs.Counted.{counted_text};
-ghost use Rattle.jv_class.specs.Numbers.{u2, u4};
-ghost use Rattle.jv_class.specs.Writing.{IsShortMember, AttrFits, names_text, start_text, IsWritten};
-ghost use Rattle.jv_pool.specs.PoolText.{IsShort as IsShortItem};
+ghost use Rattle.jv_class.specs.ClassTexts.{counted_text, member_text, class_text, IsClass, IsFewMember, HasFewItems, HasFewParts, HasShortParts, ClassText};
+ghost use Rattle.jv_class.specs.Writing.{IsWritten};
+ghost use Rattle.jv_class.specs.Steps.PartWriting.{IsShortMember, AttrFits, names_text, start_text};
+ghost use Rattle.jv_pool.specs.PoolText.{u2, IsShort as IsShortItem};
 
 use crate::class_file::{ClassFile, Member};
 use crate::counts::{has_few_items, has_few_parts};

@@ -1,4 +1,4 @@
-use Rattle.jv_class.proofs.DistinctMembers.{inserted}
+use Rattle.jv_class.proofs.MemberPairs.{inserted}
 use Rattle.jv_class.proofs.distinct.add_pair.Goals as goal
 
 pub returns-clause-has : goal.returns-clause-has

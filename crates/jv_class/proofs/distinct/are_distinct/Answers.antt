@@ -1,10 +1,10 @@
 use Rattle.std.proofs.Common.{◌≡◌, Some, length, refl}
 use Rattle.std.specs.List.{slice_get}
 use Rattle.std.proofs.lemmas.Option.{slice_get_read}
-use Rattle.jv_class.specs.MemberPairs.{pair_of, has}
+use Rattle.jv_class.specs.Steps.MemberPairs.{pair_of, has}
 use Rattle.jv_class.specs.ClassTexts.{AreDistinct}
 use Rattle.jv_class.proofs.AllLemmas.{refuted}
-use Rattle.jv_class.proofs.DistinctMembers.{goes_on, all_differ, one_again, was_there, was_new}
+use Rattle.jv_class.proofs.MemberPairs.{goes_on, all_differ, one_again, was_there, was_new}
 use Rattle.jv_class.proofs.distinct.are_distinct.Goals as goal
 
 pub returns-then-not-added : goal.returns-then-not-added

@@ -1,5 +1,5 @@
 -- The pairs so far are those of the members so far, which differ.
-use Rattle.jv_class.proofs.DistinctMembers.{SoFar}
+use Rattle.jv_class.proofs.MemberPairs.{SoFar}
 use Rattle.jv_class.proofs.distinct.are_distinct.Given as goal
 
 abbrev pub invariant-loop-member : goal.invariant-loop-member

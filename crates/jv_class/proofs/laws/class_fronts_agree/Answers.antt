@@ -1,4 +1,4 @@
-use Rattle.jv_class.proofs.WholeTexts.{no_more}
+use Rattle.jv_class.proofs.ClassTexts.{no_more}
 use Rattle.jv_class.proofs.laws.class_fronts_agree.Goals as goal
 
 pub returns : goal.returns

@@ -1,5 +1,5 @@
 use Rattle.std.proofs.Common.{sym, ◌∙◌}
-use Rattle.jv_class.proofs.WholeTexts.{one_class, written}
+use Rattle.jv_class.proofs.ClassTexts.{one_class, written}
 use Rattle.jv_class.proofs.laws.classes_go_both_ways.Goals as goal
 
 pub returns-clause-back : goal.returns-clause-back

@@ -1,5 +1,5 @@
 use Rattle.std.proofs.Common.{sym, ◌∙◌}
-use Rattle.jv_class.proofs.WholeTexts.{one_class}
+use Rattle.jv_class.proofs.ClassTexts.{one_class}
 use Rattle.jv_class.proofs.laws.classes_have_one_text.Goals as goal
 
 pub returns-clause-class : goal.returns-clause-class

@@ -1,4 +1,4 @@
-use Rattle.jv_class.proofs.WholeTexts.{field_texts, method_texts}
+use Rattle.jv_class.proofs.MemberPairs.{field_texts, method_texts}
 use Rattle.jv_class.proofs.rules.has_distinct.Goals as goal
 
 pub are_distinct-requires-clause-texts : goal.are_distinct-requires-clause-texts

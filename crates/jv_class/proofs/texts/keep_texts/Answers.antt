@@ -1,4 +1,4 @@
-use Rattle.jv_class.specs.Kinds.{IsKeptOf}
+use Rattle.jv_class.specs.Steps.Kinds.{IsKeptOf}
 use Rattle.jv_class.proofs.ListLemmas.{zip_more}
 use Rattle.jv_class.proofs.texts.keep_texts.Goals as goal
 

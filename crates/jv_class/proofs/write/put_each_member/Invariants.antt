@@ -2,7 +2,7 @@
 use Rattle.std.proofs.Common.{◌≡◌, ◌++◌, take}
 use Rattle.std.specs.List.{flat_map, AllByRecursion}
 use Rattle.jv_class.specs.ClassTexts.{member_text}
-use Rattle.jv_class.specs.Writing.{IsShortMember}
+use Rattle.jv_class.specs.Steps.PartWriting.{IsShortMember}
 use Rattle.jv_class.proofs.write.put_each_member.Given as goal
 
 abbrev pub invariant-loop-member : goal.invariant-loop-member

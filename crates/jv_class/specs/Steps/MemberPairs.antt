@@ -6,7 +6,7 @@ use Rattle.std.specs.Ordering.{nat_cmp, ordering_then}
 use Rattle.std.specs.BTreeSet.{BTreeSet, contains}
 use Rattle.jv_pool.specs.declared.item.PoolItem.{PoolItem}
 use Rattle.jv_class.specs.declared.class_file.Member.{Member}
-use Rattle.jv_class.specs.PoolTexts.{IsText}
+use Rattle.jv_class.specs.Steps.PoolTexts.{NamesText}
 
 -- the number of the item at an index, and 0 where there is none
 abbrev pub number_at : List ℕ → ℕ → ℕ
@@ -30,8 +30,8 @@ Adds old now pair = (other : ℕ × ℕ) → IsTrue (has now other) ↔ ((pair �
 
 -- the member has a name and a descriptor
 pub record HasTexts (items : List PoolItem) (m : Member) : Type 0 where
-  pub name : IsText items m.name
-  pub desc : IsText items m.desc
+  pub name : NamesText items m.name
+  pub desc : NamesText items m.desc
 
 -- each member has them
 pub record HaveTexts (items : List PoolItem) (members : List Member) : Type 0 where

@@ -5,14 +5,14 @@ use Rattle.jv_attr.specs.declared.attr.Attr.{Attr}
 use Rattle.jv_attr.specs.declared.attr.AttrBody.{AttrBody}
 use Rattle.jv_attr.specs.declared.attr.AttrBody.TheVariants.{Code, Maps, Raw}
 use Rattle.jv_attr.specs.declared.attr.CodeAttr.{CodeAttr}
-use Rattle.jv_class.specs.ClassTexts.{is_code, is_code_body}
+use Rattle.jv_class.specs.ClassTexts.{has_code, is_code_body}
 use Rattle.jv_class.specs.MethodCodes.{code_in, code_or}
 
-pub any_code : (attrs : List (Attr CodeAttr)) → list_any is_code attrs ≡ is_some (code_in attrs)
+pub any_code : (attrs : List (Attr CodeAttr)) → list_any has_code attrs ≡ is_some (code_in attrs)
 any_code [] = refl
 any_code (a ∷ attrs) = by a.body (any_code attrs)
   where
-    by : (body : AttrBody CodeAttr) → list_any is_code attrs ≡ is_some (code_in attrs) → (is_code_body body || list_any is_code attrs) ≡ is_some (code_or body (code_in attrs))
+    by : (body : AttrBody CodeAttr) → list_any has_code attrs ≡ is_some (code_in attrs) → (is_code_body body || list_any has_code attrs) ≡ is_some (code_or body (code_in attrs))
     by (Code code) more = refl
     by (Maps frames) more = more
     by (Raw bytes) more = more

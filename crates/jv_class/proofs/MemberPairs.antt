@@ -2,9 +2,7 @@
 use Rattle.std.proofs.Common.{◌≡◌, ◌-◌, ◌+◌, ◌<◌, ◌≤◌, ℕ, zero, suc, Bool, true, false, cond, eqb, not, List, [], ◌∷◌, length, Option, Some, None, refl, sym, ap, subst, ◌∙◌, arith, inl, inr, ◌⊎◌}
 use Rattle.std.specs.Prelude.{◌↔◌, IsTrue, unwrap_or}
 use Rattle.std.specs.List.{slice_get, AllByRecursion}
-use Rattle.std.specs.declared.cmp.Ordering.{Ordering}
-use Rattle.std.specs.declared.cmp.Ordering.TheVariants.{Less, Equal, Greater}
-use Rattle.std.specs.Ordering.{nat_cmp, is_eq}
+use Rattle.std.specs.Ordering.{nat_cmp, is_eq, eq_by_cmp}
 use Rattle.std.specs.Option.{option_and_then}
 use Rattle.std.specs.BTreeMap.{is_at}
 use Rattle.std.specs.BTreeSet.{BTreeSet, IsEmpty}
@@ -12,31 +10,26 @@ use Rattle.std.specs.Cmp.{IsTotalOrder}
 use Rattle.std.proofs.lemmas.Cmp.{then_total, on_total, nat_cmp_total, eq_by_cmp_equiv}
 use Rattle.std.proofs.lemmas.Map.Lookups.{exact_pairs, exact_unsigned}
 use Rattle.std.proofs.lemmas.Option.{slice_get_within}
+use Rattle.jv_equality.specs.Equality.{TellsApart}
+use Rattle.jv_equality.proofs.Exact.{is_eq-Equal, told_apart}
 use Rattle.jv_pool.specs.declared.item.PoolItem.{PoolItem}
 use Rattle.jv_pool.specs.Lookups.{text_at, text_in}
 use Rattle.jv_class.specs.declared.class_file.Member.{Member}
-use Rattle.jv_class.specs.ClassTexts.{AreDistinct}
-use Rattle.jv_class.specs.MemberPairs.{number_at, pair_of, pair_cmp, has, Adds, HasTexts, HaveTexts}
-use Rattle.jv_class.specs.PoolTexts.{IsText}
-use Rattle.jv_class.specs.TextNumbers.{text_of, AreNumbers}
+use Rattle.jv_class.specs.ClassTexts.{IsField, IsMethodMember, AreDistinct}
+use Rattle.jv_class.specs.Steps.MemberPairs.{number_at, pair_of, pair_cmp, has, Adds, HasTexts, HaveTexts}
+use Rattle.jv_class.specs.Steps.PoolTexts.{NamesText}
+use Rattle.jv_class.specs.Steps.TextNumbers.{text_of, AreNumbers}
+use Rattle.jv_class.proofs.AllLemmas.{all_from}
 use Rattle.jv_class.proofs.ListLemmas.{got}
 use Rattle.jv_class.proofs.NumberedTexts.{some_one, no_some}
 
 -- ---- pairs
 
-is_eq-Equal : (o : Ordering) → is_eq o ≡ true → o ≡ Equal
-is_eq-Equal Less e = absurd cc
-is_eq-Equal Equal e = refl
-is_eq-Equal Greater e = absurd cc
-
-pair_same : (p q : ℕ × ℕ) → is_eq (pair_cmp p q) ≡ true → p ≡ q
-pair_same p q e = exact_pairs nat_cmp nat_cmp exact_unsigned exact_unsigned p q (is_eq-Equal (pair_cmp p q) e)
-
 pair_total : IsTotalOrder pair_cmp
 pair_total = then_total (on_total (λ (t : ℕ × ℕ). t.0) nat_cmp_total) (on_total (λ (t : ℕ × ℕ). t.1) nat_cmp_total)
 
-pair_itself : (p : ℕ × ℕ) → is_eq (pair_cmp p p) ≡ true
-pair_itself p = (eq_by_cmp_equiv pair_total).refl p
+pairs_told : TellsApart (eq_by_cmp pair_cmp)
+pairs_told = told_apart (λ p q e. exact_pairs nat_cmp nat_cmp exact_unsigned exact_unsigned p q (is_eq-Equal (pair_cmp p q) e)) (eq_by_cmp_equiv pair_total)
 
 -- what an insertion leaves
 pub inserted : (old new : BTreeSet (ℕ × ℕ)) (pair : ℕ × ℕ) → ((q : ℕ × ℕ) → has new q ≡ cond (is_at (pair_cmp pair) q) true (has old q)) → Adds old new pair
@@ -44,12 +37,12 @@ inserted old new pair h other = by_test (is_eq (pair_cmp pair other)) refl
   where
     by_test : (b : Bool) → is_eq (pair_cmp pair other) ≡ b → IsTrue (has new other) ↔ ((pair ≡ other) ⊎ IsTrue (has old other))
     by_test true e =
-        (λ _. inl (pair_same pair other e), λ _. h other ∙ ap (λ (t : Bool). cond t true (has old other)) e)
+        (λ _. inl ((pairs_told pair other).0 e), λ _. h other ∙ ap (λ (t : Bool). cond t true (has old other)) e)
     by_test false e =
         let kept : has new other ≡ has old other = h other ∙ ap (λ (t : Bool). cond t true (has old other)) e in (
           λ was. inr (sym kept ∙ was),
           λ either. elim either [
-            | inl same ↦ absurd (let both : true ≡ false = sym (pair_itself pair) ∙ ap (λ (q : ℕ × ℕ). is_eq (pair_cmp pair q)) same ∙ e in cc)
+            | inl same ↦ absurd (let both : true ≡ false = sym ((pairs_told pair pair).1 refl) ∙ ap (λ (q : ℕ × ℕ). is_eq (pair_cmp pair q)) same ∙ e in cc)
             | inr was ↦ kept ∙ was
           ],
         )
@@ -86,7 +79,7 @@ stands items numbers index text h found = by_test (eqb index 0) refl found
         }
 
 -- equal numbers are those of equal texts
-texts_same : (items : List PoolItem) (numbers : List ℕ) (x y : ℕ) → AreNumbers items numbers → IsText items x → IsText items y → number_at numbers x ≡ number_at numbers y → text_at items x ≡ text_at items y
+texts_same : (items : List PoolItem) (numbers : List ℕ) (x y : ℕ) → AreNumbers items numbers → NamesText items x → NamesText items y → number_at numbers x ≡ number_at numbers y → text_at items x ≡ text_at items y
 texts_same items numbers x y h p q e =
     let s = stands items numbers x p.text h p.found in
     let t = stands items numbers y q.text h q.found in
@@ -95,7 +88,7 @@ texts_same items numbers x y h p q e =
     p.found ∙ ap (λ (z : List ℕ). Some z) texts ∙ sym q.found
 
 -- equal texts have equal numbers
-numbers_same : (items : List PoolItem) (numbers : List ℕ) (x y : ℕ) → AreNumbers items numbers → IsText items x → IsText items y → text_at items x ≡ text_at items y → number_at numbers x ≡ number_at numbers y
+numbers_same : (items : List PoolItem) (numbers : List ℕ) (x y : ℕ) → AreNumbers items numbers → NamesText items x → NamesText items y → text_at items x ≡ text_at items y → number_at numbers x ≡ number_at numbers y
 numbers_same items numbers x y h p q e =
     let s = stands items numbers x p.text h p.found in
     let t = stands items numbers y q.text h q.found in
@@ -192,3 +185,11 @@ was_there false added e f = absurd (let both : true ≡ false = sym e ∙ f in c
 pub was_new : (there added : Bool) → added ≡ not there → added ≡ true → there ≡ false
 was_new true added e f = absurd (let both : true ≡ false = sym f ∙ e in cc)
 was_new false added e f = refl
+
+-- ---- members that keep the rules have texts
+
+pub field_texts : (items : List PoolItem) (members : List Member) → AllByRecursion (IsField items) members → HaveTexts items members
+field_texts items members h = record { each = all_from (IsField items) (HasTexts items) (λ m f. record { name = record { text = f.name.text; found = f.name.found }; desc = record { text = f.descriptor.text; found = f.descriptor.found } }) members h }
+
+pub method_texts : (items : List PoolItem) (members : List Member) → AllByRecursion (IsMethodMember items) members → HaveTexts items members
+method_texts items members h = record { each = all_from (IsMethodMember items) (HasTexts items) (λ m f. record { name = record { text = f.name.text; found = f.name.found }; desc = record { text = f.descriptor.text; found = f.descriptor.found } }) members h }
