@@ -3,8 +3,8 @@ use Rattle.std.proofs.Common.{◌≡◌, ℕ, ◌+◌, ◌^◌, ◌<◌, eqb, co
 use Rattle.std.specs.List.{AllByRecursion}
 use Rattle.std.proofs.lemmas.Bool.{eqb-true}
 use Rattle.std.proofs.lemmas.List.{append-nil, nil_from_length}
-use Rattle.jv_read.specs.Reading.{◌>>=◌, number_at, counted_at}
-use Rattle.jv_read.proofs.Fronts.{bind_some, bind_is, past_true, given_as, some_is, joined, number_takes, number_again}
+use Rattle.jv_read.specs.Reading.{◌>>=◌, number_at}
+use Rattle.jv_read.proofs.Fronts.{bind_some, past_true, given_as, some_is, joined, number_takes, number_again}
 use Rattle.jv_read.proofs.Many.{counted_take, counted_again}
 use Rattle.jv_pool.specs.declared.item.PoolItem.{PoolItem}
 use Rattle.jv_pool.specs.PoolText.{u2, u4, pool_text, IsPool, IsShort as IsShortItem}
