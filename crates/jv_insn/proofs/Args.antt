@@ -9,6 +9,7 @@ use Rattle.jv_insn.specs.declared.written.Operands.{Operands}
 use Rattle.jv_insn.specs.declared.written.Operands.TheVariants.{Nothing, Local, Small, Inc, Index, Called, Site, NewPrim, Multi, Jump, Table, Lookup}
 use Rattle.jv_insn.specs.Effects.{local_of}
 use Rattle.jv_insn.specs.Meanings.{NamesArg, NamesOperands}
+use Rattle.jv_insn.specs.Causes.{local_written}
 
 -- the local variable of an opcode alone
 abbrev by_op : ℕ → ℕ
@@ -24,13 +25,7 @@ named_local forms.Field pool op index a h = rw h.1 refl
 named_local forms.Method pool op index a h = rw h.1 refl
 named_local _ pool op index a h = absurd h
 
--- the local variable that operands name
-abbrev written_local : ℕ → Operands → ℕ
-written_local op (Local local) = local
-written_local op (Inc local by) = local
-written_local op _ = by_op op
-
-written_is : {I : Type 0} (pool : List PoolItem) (rows : List (ℕ × I)) (pc op : ℕ) (form : Form) (operands : Operands) (a : Arg) → NamesOperands pool rows pc op form operands a → local_of op a ≡ written_local op operands
+pub written_is : {I : Type 0} (pool : List PoolItem) (rows : List (ℕ × I)) (pc op : ℕ) (form : Form) (operands : Operands) (a : Arg) → NamesOperands pool rows pc op form operands a → local_of op a ≡ local_written op operands
 written_is pool rows pc op form Nothing a h = rw h refl
 written_is pool rows pc op form (Local local) a h = rw h refl
 written_is pool rows pc op form (Small value) a h = rw h refl

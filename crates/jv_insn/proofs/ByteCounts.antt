@@ -1,5 +1,5 @@
 -- The bytes of an instruction are as many as its size says.
-use Rattle.std.proofs.Common.{◌≡◌, ℕ, suc, ◌+◌, ◌*◌, ℤ, pos, ◌+ℤ◌, ◌-ℤ◌, Bool, true, false, cond, List, [], ◌∷◌, ◌++◌, length, refl, sym, ap, ◌∙◌, length-append, arith}
+use Rattle.std.proofs.Common.{◌≡◌, ℕ, suc, ◌+◌, ◌*◌, ℤ, pos, ◌+ℤ◌, ◌-ℤ◌, Bool, true, false, List, [], ◌∷◌, ◌++◌, length, refl, ap, ◌∙◌, length-append, arith}
 use Rattle.std.specs.Int.{w8, w16, w32, cast_unsigned}
 use Rattle.std.specs.List.{flat_map}
 use Rattle.std.proofs.lemmas.List.{length-replicate}
@@ -7,9 +7,7 @@ use Rattle.jv_bytes.specs.Numbers.{number_text}
 use Rattle.jv_bytes.proofs.NumberLaws.{length-number_text}
 use Rattle.jv_table.specs.declared.code_tables.Form.{Form}
 use Rattle.jv_table.specs.declared.code_tables.Form.TheVariants as forms
-use Rattle.jv_types.specs.declared.desc.PrimType.{PrimType}
 use Rattle.jv_types.specs.declared.references.MethodRef.{MethodRef}
-use Rattle.jv_types.specs.declared.instruction.Const.TheVariants as consts
 use Rattle.jv_types.specs.declared.instruction.Arg.{Arg}
 use Rattle.jv_types.specs.declared.instruction.Arg.TheVariants as args
 use Rattle.jv_types.specs.declared.instruction.Insn.{Insn}

@@ -17,7 +17,7 @@ use Rattle.jv_insn.specs.Layouts.{head_text, IsInsnText, BeginsWithInsn, AtEnd, 
 use Rattle.jv_insn.specs.Meanings.{IsInsn}
 use Rattle.jv_insn.specs.Decoding.{IsRow, IsHandler, Decodes}
 use Rattle.jv_insn.specs.Entries.{entry_of, arg_place, Grows}
-use Rattle.jv_insn.specs.Encoding.{form_of, operand_text, index_in, insn_text, insns_text, is_left_out, insn_size, IsSpelled, StandsNear, MayStand, AreLaid, HasPlaces, MayEncode, NamesHandler, DecodesTo}
+use Rattle.jv_insn.specs.Encoding.{form_of, operand_text, index_in, insn_text, insns_text, is_left_out, insn_size, StandsNear, MayStand, AreLaid, HasPlaces, MayEncode, NamesHandler, DecodesTo}
 use Rattle.jv_insn.specs.Steps.Writing.{FitsArg, IsSpelledInsn, MayPut}
 use Rattle.jv_insn.proofs.Placed.{arg_later, index_is}
 use Rattle.jv_insn.proofs.Rewriting.{Starts, layout_row, again}

@@ -14,12 +14,11 @@ use Rattle.jv_types.specs.declared.references.MethodRef.{MethodRef}
 use Rattle.jv_types.specs.declared.instruction.Const.{Const}
 use Rattle.jv_types.specs.declared.instruction.Const.TheVariants as consts
 use Rattle.jv_types.specs.declared.instruction.Arg.{Arg}
-use Rattle.jv_types.specs.declared.instruction.Arg.TheVariants as args
 use Rattle.jv_types.specs.declared.instruction.Insn.{Insn}
 use Rattle.jv_types.specs.declared.raw_handler.RawHandler.{RawHandler}
 use Rattle.jv_types.specs.declared.body.Body.{Body}
 use Rattle.jv_types.specs.Bodies.{at_offset}
-use Rattle.jv_desc.specs.Texts.{ref_dims, IsRef, IsMethodText, words_of}
+use Rattle.jv_desc.specs.Texts.{IsRef, words_of}
 use Rattle.jv_desc.proofs.Agreement.{one_method}
 use Rattle.jv_pool.specs.declared.item.PoolItem.{PoolItem}
 use Rattle.jv_pool.specs.declared.item.PoolItem.TheVariants as items
@@ -36,7 +35,7 @@ use Rattle.jv_names.specs.Naming.{IsTypeText, NamesType, texts_of, texts_at, fie
 use Rattle.jv_insn.specs.Meanings.{NamesConst, NamesOperands}
 use Rattle.jv_insn.specs.Decoding.{Decodes}
 use Rattle.jv_insn.specs.Encoding.{form_of}
-use Rattle.jv_insn.specs.Kept.{KeepsField, KeepsMethod, KeepsConst, KeepsArg, KeepsForm}
+use Rattle.jv_insn.specs.Kept.{KeepsField, KeepsConst, KeepsArg, KeepsForm}
 use Rattle.jv_insn.proofs.Encoded.{IsSpelledOver, spelled_insns}
 use Rattle.jv_insn.proofs.OfLayout.{own_operands, at_all}
 use Rattle.jv_insn.proofs.Rewriting.{layout_by, layout_row}
@@ -44,20 +43,24 @@ use Rattle.jv_insn.proofs.SpelledBodies.{AreOperandsBy}
 
 -- ---- a pool
 
--- what holds of each item holds of the one at an index
+-- what holds of each item holds of the one at a place
 at_index : (P : PoolItem → Type 0) (pool : List PoolItem) (i : ℕ) (item : PoolItem) → AllByRecursion P pool → slice_get pool i ≡ Some item → P item
 at_index P [] i item all e = absurd cc
 at_index P (x ∷ xs) zero item all e = subst P (some_is x item e) all.0
 at_index P (x ∷ xs) (suc i) item all e = at_index P xs i item all.1 e
 
-item_keeps : (pool : List PoolItem) (index : ℕ) (item : PoolItem) → IsNamedPool pool → item_at pool index ≡ Some item → IsNamedItem pool item
-item_keeps pool index item all e = by (eqb index 0) refl e
+-- what holds of each item holds of the one that an index names
+pub item_has : (P : PoolItem → Type 0) (pool : List PoolItem) (index : ℕ) (item : PoolItem) → AllByRecursion P pool → item_at pool index ≡ Some item → P item
+item_has P pool index item all e = by (eqb index 0) refl e
   where
-    by : (b : Bool) → eqb index 0 ≡ b → cond b None (slice_get pool (index - 1)) ≡ Some item → IsNamedItem pool item
+    by : (b : Bool) → eqb index 0 ≡ b → cond b None (slice_get pool (index - 1)) ≡ Some item → P item
     by true is e = absurd cc
-    by false is e = at_index (IsNamedItem pool) pool (index - 1) item all e
+    by false is e = at_index P pool (index - 1) item all e
 
-field_item : (item : Option PoolItem) (class pair : ℕ) → option_and_then field_in item ≡ Some (class, pair) → item ≡ Some (items.Field class pair)
+pub item_keeps : (pool : List PoolItem) (index : ℕ) (item : PoolItem) → IsNamedPool pool → item_at pool index ≡ Some item → IsNamedItem pool item
+item_keeps pool index item named e = item_has (IsNamedItem pool) pool index item named e
+
+pub field_item : (item : Option PoolItem) (class pair : ℕ) → option_and_then field_in item ≡ Some (class, pair) → item ≡ Some (items.Field class pair)
 field_item None class pair e = absurd cc
 field_item (Some (items.Field a b)) class pair e = let is : (a, b) ≡ (class, pair) = some_is (a, b) (class, pair) e in ap (λ (p : ℕ × ℕ). Some (items.Field p.0 p.1)) is
 field_item (Some _) class pair e = absurd cc
@@ -93,7 +96,7 @@ type_keeps text (Class name) h = record { dims = omega arith; named = h.1 }
 type_keeps text (PrimArray prim) h = h.valid
 type_keeps text (Array' shape all) h = h.valid
 
-named_keeps : (pool : List PoolItem) (index : ℕ) (type : RefType) → NamesType pool index type → IsRef 255 type
+pub named_keeps : (pool : List PoolItem) (index : ℕ) (type : RefType) → NamesType pool index type → IsRef 255 type
 named_keeps pool index type h = type_keeps h.text type h.spelled
 
 const_keeps : (pool : List PoolItem) (index : ℕ) (const : Const) → NamesConst pool index const → KeepsConst const
@@ -113,11 +116,11 @@ field_keeps pool index field all h =
     let texts = pair_texts pool h.pair n.name_index n.desc_index field.name h.desc h.texts n.found in
     record { class = h.class_is.is_name; name = text_kind pool n.name_index field.name IsFieldName n.name texts.0; desc = h.spelled.valid }
 
-abbrev method_item : Bool → ℕ → ℕ → PoolItem
+abbrev pub method_item : Bool → ℕ → ℕ → PoolItem
 method_item false class pair = items.Method class pair
 method_item true class pair = items.InterfaceMethod class pair
 
-method_item_is : (item : Option PoolItem) (interface : Bool) (class pair : ℕ) → option_and_then method_in item ≡ Some (interface, class, pair) → item ≡ Some (method_item interface class pair)
+pub method_item_is : (item : Option PoolItem) (interface : Bool) (class pair : ℕ) → option_and_then method_in item ≡ Some (interface, class, pair) → item ≡ Some (method_item interface class pair)
 method_item_is None interface class pair e = absurd cc
 method_item_is (Some (items.Method a b)) interface class pair e =
     let is : (false, a, b) ≡ (interface, class, pair) = some_is (false, a, b) (interface, class, pair) e in
@@ -127,7 +130,7 @@ method_item_is (Some (items.InterfaceMethod a b)) interface class pair e =
     ap (λ (p : Bool × ℕ × ℕ). Some (method_item p.0 p.1 p.2)) is
 method_item_is (Some _) interface class pair e = absurd cc
 
-method_names : (pool : List PoolItem) (interface : Bool) (class pair : ℕ) → IsNamedItem pool (method_item interface class pair) → HasNames pool pair IsCalledName (IsMethodDescriptor false)
+pub method_names : (pool : List PoolItem) (interface : Bool) (class pair : ℕ) → IsNamedItem pool (method_item interface class pair) → HasNames pool pair IsCalledName (IsMethodDescriptor false)
 method_names pool false class pair h = h
 method_names pool true class pair h = h
 

@@ -4,7 +4,7 @@ use Rattle.std.specs.List.{AllZip}
 use Rattle.jv_insn.specs.Meanings.{LeadsTo, LeadsCase}
 use Rattle.jv_insn.proofs.RowLoops.{zip_at}
 
-one_distance : (z : ℤ) (a b : ℕ) → z ≡ pos a → z ≡ pos b → a ≡ b
+pub one_distance : (z : ℤ) (a b : ℕ) → z ≡ pos a → z ≡ pos b → a ≡ b
 one_distance z a b e f = let same : pos a ≡ pos b = sym e ∙ f in (cc)
 
 pub one_target : {I : Type 0} (rows : List (ℕ × I)) (pc : ℕ) (offset : ℤ) (a b : ℕ) → LeadsTo rows pc offset a → LeadsTo rows pc offset b → a ≡ b

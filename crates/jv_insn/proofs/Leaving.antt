@@ -3,21 +3,18 @@ use Rattle.std.proofs.Common.{◌≡◌, ℕ, zero, suc, ◌+◌, ◌-◌, ◌<�
 use Rattle.std.specs.Prelude.{is_none, nat_le, slice_get, unwrap_or}
 use Rattle.std.specs.List.{list_all, list_any, range_with_len}
 use Rattle.std.specs.Option.{option_map, option_map_or}
-use Rattle.std.specs.Ordering.{nat_cmp}
 use Rattle.std.proofs.lemmas.Bool.{and_parts, lt-ltb}
 use Rattle.std.proofs.lemmas.Bool.Decides.{nat_tests}
 use Rattle.jv_table.specs.CodeRows.{OpForm, opcode_rows}
 use Rattle.jv_table.specs.declared.code_tables.Cell.{Cell}
 use Rattle.jv_table.specs.declared.code_tables.Cell.TheVariants.{Int}
 use Rattle.jv_table.specs.declared.ops.TheConstants.{IINC}
-use Rattle.jv_table.specs.declared.code_tables.Form.{Form}
-use Rattle.jv_table.specs.declared.code_tables.Form.TheVariants as forms
 use Rattle.jv_types.specs.declared.instruction.Arg.{Arg}
 use Rattle.jv_types.specs.declared.instruction.Insn.{Insn}
 use Rattle.jv_insn.specs.Effects.{Shuffle, effect_of, op_row, shuffle_of, cell_width, width_of, cells_taken, cells_given, decides_cells, is_load, is_store, local_of, locals_written}
 use Rattle.jv_insn.specs.Forms.{HasOperands, HasRowOperands, HasOwnOperands}
-use Rattle.jv_insn.specs.Leaving.{Place, AtLocal, AtStack, Words, word_at, words_taken, words_given, words_below, depth_after, is_written, source_of_local, source_of_top, source_of, Leaves, StandsAfter, word_after, words_after}
-use Rattle.jv_insn.proofs.Tables.{row_passes, row_cells_taken, row_cells_given}
+use Rattle.jv_insn.specs.Leaving.{Place, AtLocal, AtStack, Words, word_at, words_taken, words_given, words_below, depth_after, is_written, source_of_top, source_of, Leaves, StandsAfter, word_after, words_after}
+use Rattle.jv_insn.proofs.Tables.{row_passes, row_cells_taken}
 
 -- ---- a word above those that aren't touched
 

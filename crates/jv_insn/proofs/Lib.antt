@@ -1,6 +1,9 @@
 pub mod Args
 pub mod Bits
 pub mod ByteCounts
+pub mod Caused
+pub mod Causes
+pub mod ClassPool
 pub mod Deciding
 pub mod Encoded
 pub mod EncodingLoop
@@ -8,6 +11,7 @@ pub mod Failing
 pub mod Firsts
 pub mod HeldCells
 pub mod Keeping
+pub mod KindSafe
 pub mod Laying
 pub mod Leaving
 pub mod Leading

@@ -1,7 +1,7 @@
 -- What stands at the place of an entry is named by its index.
 use Rattle.std.proofs.Common.{◌≡◌, ℕ, Bool, true, false, List, Some, refl, ap, subst, ◌∙◌}
 use Rattle.std.specs.Prelude.{option_and_then}
-use Rattle.jv_types.specs.declared.desc.RefType.{RefType, Class, PrimArray, Array'}
+use Rattle.jv_types.specs.declared.desc.RefType.{RefType}
 use Rattle.jv_types.specs.declared.references.FieldRef.{FieldRef}
 use Rattle.jv_types.specs.declared.references.MethodRef.{MethodRef}
 use Rattle.jv_types.specs.declared.instruction.Const.{Const}

@@ -7,7 +7,6 @@ use Rattle.jv_table.specs.declared.code_tables.Form.{Form}
 use Rattle.jv_table.specs.declared.code_tables.Form.TheVariants as forms
 use Rattle.jv_table.specs.declared.ops.TheConstants.{RET}
 use Rattle.jv_types.specs.declared.instruction.Arg.{Arg}
-use Rattle.jv_types.specs.declared.instruction.Arg.TheVariants as args
 use Rattle.jv_types.specs.declared.instruction.Insn.{Insn}
 use Rattle.jv_types.specs.declared.raw_handler.RawHandler.{RawHandler}
 use Rattle.jv_types.specs.declared.body.Body.{Body}
@@ -18,7 +17,7 @@ use Rattle.jv_insn.specs.declared.written.Operands.TheVariants as written
 use Rattle.jv_insn.specs.declared.written.Written.{Written}
 use Rattle.jv_insn.specs.Effects.{op_row}
 use Rattle.jv_insn.specs.Forms.{HasOperands, HasRowOperands, HasOwnOperands}
-use Rattle.jv_insn.specs.Layouts.{Layout, Alone, One, Two, Three, TableSwitch, LookupSwitch, s1, s2, s4, layout_of, wide_layout_of, AreOperands, is_allowed}
+use Rattle.jv_insn.specs.Layouts.{Layout, Alone, One, Two, Three, TableSwitch, LookupSwitch, s1, s2, layout_of, wide_layout_of, AreOperands, is_allowed}
 use Rattle.jv_insn.specs.Meanings.{NamesOperands}
 use Rattle.jv_insn.specs.Decoding.{Decodes}
 use Rattle.jv_read.proofs.Fronts.{some_is}
@@ -26,7 +25,7 @@ use Rattle.jv_insn.proofs.Rewriting.{layout_by, layout_row}
 use Rattle.jv_insn.proofs.Encoded.{IsSpelledOver, spelled_insns}
 
 -- the operands of a layout, whatever the bytes are
-abbrev IsMade : Layout → Operands → Type 0
+abbrev pub IsMade : Layout → Operands → Type 0
 IsMade Alone operands = operands ≡ written.Nothing
 IsMade (One n make) operands = (a : ℕ) × (operands ≡ make a)
 IsMade (Two m n make) operands = (a : ℕ) × (b : ℕ) × (operands ≡ make a b)
@@ -34,7 +33,7 @@ IsMade (Three m n k make) operands = (a : ℕ) × (b : ℕ) × (c : ℕ) × (ope
 IsMade TableSwitch operands = (default : _) × (low : _) × (offsets : _) × (operands ≡ written.Table default low offsets)
 IsMade LookupSwitch operands = (default : _) × (cases : _) × (operands ≡ written.Lookup default cases)
 
-made : (layout : Layout) (at : ℕ) (text : List ℕ) (operands : Operands) → AreOperands layout at text operands → IsMade layout operands
+pub made : (layout : Layout) (at : ℕ) (text : List ℕ) (operands : Operands) → AreOperands layout at text operands → IsMade layout operands
 made Alone at text operands h = h.1
 made (One n make) at text operands h = (h.number, h.made)
 made (Two m n make) at text operands h = (h.first, h.second, h.made)
@@ -43,7 +42,7 @@ made TableSwitch at text operands h = (h.default, h.low, h.offsets, h.made)
 made LookupSwitch at text operands h = (h.default, h.cases, h.made)
 
 -- the same where there may be no layout
-abbrev IsMadeBy : Option Layout → Operands → Type 0
+abbrev pub IsMadeBy : Option Layout → Operands → Type 0
 IsMadeBy None operands = ⊥
 IsMadeBy (Some layout) operands = IsMade layout operands
 
@@ -74,7 +73,7 @@ plain_operands forms.TableSwitch pool rows pc op operands arg m allowed n = let 
 plain_operands forms.LookupSwitch pool rows pc op operands arg m allowed n = let k = subst (λ (o : Operands). NamesOperands pool rows pc op forms.LookupSwitch o arg) m.2 n in (k.0, k.1, k.2)
 plain_operands forms.Wide pool rows pc op operands arg m allowed n = absurd m
 
-chosen : (b : Bool) (layout : Layout) (operands : Operands) → IsMadeBy (cond b None (Some layout)) operands → IsMade layout operands
+pub chosen : (b : Bool) (layout : Layout) (operands : Operands) → IsMadeBy (cond b None (Some layout)) operands → IsMade layout operands
 chosen true layout operands m = absurd m
 chosen false layout operands m = m
 

@@ -64,7 +64,7 @@ record HasItem (pool : List PoolItem) (index : ℕ) (const : Const) : Type 0 whe
   kind : (const_in item ≡ Some const) ⊎ IsClass pool index item const
 
 -- the item that names a class
-class_item : (pool : List PoolItem) (item : Option PoolItem) (text : List ℕ) → option_and_then (class_name_in pool) item ≡ Some text → (name : ℕ) × (item ≡ Some (items.Class name))
+pub class_item : (pool : List PoolItem) (item : Option PoolItem) (text : List ℕ) → option_and_then (class_name_in pool) item ≡ Some text → (name : ℕ) × (item ≡ Some (items.Class name))
 class_item pool None text e = absurd cc
 class_item pool (Some (items.Class name)) text e = (name, refl)
 class_item pool (Some _) text e = absurd cc

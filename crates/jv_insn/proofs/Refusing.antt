@@ -2,14 +2,11 @@
 use Rattle.std.proofs.Common.{◌≡◌, ℕ, ◌<◌, ◌≤◌, Bool, true, false, List, Some, subst, ◌∙◌}
 use Rattle.std.specs.Prelude.{IsTrue, ◌↔◌}
 use Rattle.jv_table.specs.declared.code_tables.Form.TheVariants as forms
-use Rattle.jv_types.specs.declared.desc.PrimType.{PrimType}
 use Rattle.jv_types.specs.declared.desc.RefType.{RefType}
-use Rattle.jv_types.specs.declared.desc.Desc.TheVariants as descs
 use Rattle.jv_types.specs.declared.references.MethodRef.{MethodRef}
 use Rattle.jv_types.specs.declared.instruction.Arg.{Arg}
 use Rattle.jv_types.specs.declared.instruction.Const.{Const}
-use Rattle.jv_desc.specs.Texts.{ref_dims, IsFieldText}
-use Rattle.jv_desc.proofs.Agreement.{one_field}
+use Rattle.jv_desc.specs.Texts.{ref_dims}
 use Rattle.jv_pool.specs.declared.item.PoolItem.{PoolItem}
 use Rattle.jv_read.specs.declared.fault.ReadFault.{ReadFault}
 use Rattle.jv_read.specs.declared.fault.ReadFault.TheVariants as faults

@@ -11,7 +11,6 @@ use Rattle.jv_table.specs.declared.ops.TheConstants.{RET}
 use Rattle.jv_types.specs.Bodies.{IsStart, at_offset}
 use Rattle.jv_types.specs.declared.raw_handler.RawHandler.{RawHandler}
 use Rattle.jv_types.specs.declared.instruction.Arg.{Arg}
-use Rattle.jv_types.specs.declared.instruction.Arg.TheVariants as args
 use Rattle.jv_types.specs.declared.instruction.Insn.{Insn}
 use Rattle.jv_types.specs.declared.body.Handler.{Handler}
 use Rattle.jv_types.specs.declared.body.Body.{Body}
@@ -19,8 +18,7 @@ use Rattle.jv_pool.specs.declared.item.PoolItem.{PoolItem}
 use Rattle.jv_insn.specs.declared.written.Operands.{Operands}
 use Rattle.jv_insn.specs.declared.written.Operands.TheVariants as written
 use Rattle.jv_insn.specs.declared.written.Written.{Written}
-use Rattle.jv_insn.specs.Effects.{op_row}
-use Rattle.jv_insn.specs.Layouts.{Layout, Alone, One, Two, Three, TableSwitch, LookupSwitch, s1, s2, s4, s4_text, pair_text, padding_at, layout_of, wide_layout_of, IsOne, AreTwo, AreThree, IsTable, IsLookup, AreOperands, head_text, IsInsnText, Ends, BreaksOff, Lays}
+use Rattle.jv_insn.specs.Layouts.{Layout, One, s1, s2, s4, s4_text, pair_text, padding_at, layout_of, wide_layout_of, IsOne, AreTwo, AreThree, IsTable, IsLookup, AreOperands, head_text, IsInsnText, Ends, BreaksOff, Lays}
 use Rattle.jv_insn.specs.Meanings.{LeadsTo, LeadsCase, NamesOperands, IsInsn}
 use Rattle.jv_insn.specs.Decoding.{IsRow, IsHandler, Decodes}
 use Rattle.jv_insn.specs.Encoding.{form_of, is_left_out, arg_size, insn_size, IsSpelled, StandsNear, MayStand, AreLaid, HasPlaces, MayEncode}

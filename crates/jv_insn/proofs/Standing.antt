@@ -1,5 +1,5 @@
 -- An instruction that fits may stand: some bytes over some pool spell it.
-use Rattle.std.proofs.Common.{◌≡◌, ℕ, ◌+◌, ◌<◌, ◌≤◌, ◌^◌, ℤ, pos, ◌+ℤ◌, ◌-ℤ◌, Bool, true, false, cond, eqb, ltb, List, [], ◌∷◌, ◌++◌, map, Option, Some, None, IsSome, refl, sym, ap, subst, ◌∙◌, arith}
+use Rattle.std.proofs.Common.{◌≡◌, ℕ, ◌+◌, ◌<◌, ◌≤◌, ◌^◌, ℤ, pos, ◌+ℤ◌, ◌-ℤ◌, Bool, true, false, cond, eqb, List, [], ◌∷◌, ◌++◌, map, Option, Some, None, IsSome, refl, sym, ap, subst, ◌∙◌, arith}
 use Rattle.std.specs.Prelude.{option_and_then, is_some, FitsSigned}
 use Rattle.std.specs.Int.{w8, w16, w32, cast_unsigned}
 use Rattle.std.specs.Ordering.{nat_cmp}
@@ -11,7 +11,6 @@ use Rattle.jv_table.specs.Rows.{row_of}
 use Rattle.jv_table.specs.CodeRows.{OpForm, newarray_rows}
 use Rattle.jv_table.specs.declared.code_tables.Form.{Form}
 use Rattle.jv_table.specs.declared.code_tables.Form.TheVariants as forms
-use Rattle.jv_table.specs.declared.ops.TheConstants.{RET}
 use Rattle.jv_types.specs.Bodies.{IsStart, at_offset}
 use Rattle.jv_types.specs.NameForms.{is_class_name}
 use Rattle.jv_types.specs.declared.desc.PrimType.{PrimType}
@@ -24,17 +23,16 @@ use Rattle.jv_types.specs.declared.instruction.Const.TheVariants as consts
 use Rattle.jv_types.specs.declared.instruction.Arg.{Arg}
 use Rattle.jv_types.specs.declared.instruction.Arg.TheVariants as args
 use Rattle.jv_types.specs.declared.instruction.Insn.{Insn}
-use Rattle.jv_desc.specs.Texts.{prim_letter, desc_text, method_text, ref_dims, IsRef, IsDesc, IsMethodDesc, words_of}
+use Rattle.jv_desc.specs.Texts.{prim_letter, desc_text, method_text, ref_dims, IsRef, IsDesc, words_of}
 use Rattle.jv_pool.specs.declared.item.PoolItem.{PoolItem}
 use Rattle.jv_pool.specs.declared.item.PoolItem.TheVariants as items
 use Rattle.jv_insn.specs.declared.written.Operands.{Operands}
 use Rattle.jv_insn.specs.declared.written.Operands.TheVariants as written
 use Rattle.jv_insn.specs.declared.written.Written.{Written}
 use Rattle.jv_insn.specs.Effects.{op_row}
-use Rattle.jv_insn.specs.Forms.{is_category_2}
-use Rattle.jv_insn.specs.Layouts.{Layout, Alone, One, Two, Three, s1, s2, s4, layout_of, wide_layout_of, layout_for, AreOperands, is_allowed, head_text, IsInsnText}
+use Rattle.jv_insn.specs.Layouts.{Layout, Alone, One, Two, Three, s1, s2, s4, layout_of, wide_layout_of, layout_for, AreOperands, is_allowed, head_text}
 use Rattle.jv_names.specs.Naming.{method_in, IsTypeText, NamesType, NamesField, NamesMethod, type_text}
-use Rattle.jv_insn.specs.Meanings.{NamesConst, LeadsTo, NamesOperands, IsInsn}
+use Rattle.jv_insn.specs.Meanings.{NamesConst, LeadsTo, NamesOperands}
 use Rattle.jv_insn.specs.Encoding.{branch_offset, atype_of, MayStand}
 use Rattle.jv_insn.specs.Building.{IsFormedConst, IsFormedMethod, FitsForm, FitsWide, FitsUnder, FitsCode}
 

@@ -17,7 +17,6 @@ use Rattle.jv_types.specs.declared.desc.PrimType.TheVariants.{Boolean, Char, Flo
 use Rattle.jv_desc.specs.Texts.{prim_letter}
 use Rattle.jv_read.proofs.Fronts.{some_is}
 use Rattle.jv_types.specs.declared.instruction.Arg.{Arg}
-use Rattle.jv_types.specs.declared.instruction.Arg.TheVariants as args
 use Rattle.jv_insn.specs.Effects.{Shuffle, op_row, row_takes, row_gives, cells_taken, cells_given, decides_cells, shuffle_of}
 use Rattle.jv_insn.specs.Forms.{HasOperands}
 use Rattle.jv_insn.specs.Encoding.{atype_of}
@@ -64,6 +63,28 @@ ldc_alone op row e is =
     by : (b : Bool) → b ≡ true → (not b || eqb op 18) ≡ true → eqb op 18 ≡ true
     by true t h = h
     by false t h = absurd cc
+
+-- ---- new and anewarray
+
+abbrev is_class_form : Form → Bool
+is_class_form forms.Class = true
+is_class_form _ = false
+
+abbrev names_class : ℕ × OpForm → Bool
+names_class row = not (eqb row.0 187 || eqb row.0 189) || is_class_form row.1.form
+
+each_names_class : list_all names_class opcode_rows ≡ true
+unfolding opcode_rows
+each_names_class = refl
+
+-- a new and an anewarray name a class
+pub class_form : (op : ℕ) (row : OpForm) → op_row op ≡ Some row → (eqb op 187 || eqb op 189) ≡ true → row.form ≡ forms.Class
+class_form op row e is = let passes = row_passes names_class opcode_rows op row each_names_class e in by (eqb op 187 || eqb op 189) row.form is passes
+  where
+    by : (b : Bool) (form : Form) → b ≡ true → (not b || is_class_form form) ≡ true → form ≡ forms.Class
+    by true forms.Class t h = refl
+    by true _ t h = absurd cc
+    by false form t h = absurd cc
 
 -- ---- newarray
 

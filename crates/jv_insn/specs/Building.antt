@@ -1,6 +1,6 @@
 -- Facts of a single instruction by which it may stand in a body that is encoded, for whoever builds code
 -- (JVMS 4.9.1, 6.5). They name no pool and no bytes.
-use Rattle.std.specs.Prelude.{◌≡◌, ◌<◌, ◌≤◌, ℕ, ℤ, Bool, true, false, IsTrue, ◌==◌, List, Option, Some, None, FitsSigned}
+use Rattle.std.specs.Prelude.{◌≡◌, ◌<◌, ◌≤◌, ℕ, ℤ, Bool, true, false, IsTrue, ◌==◌, List, Some, FitsSigned}
 use Rattle.std.specs.Int.{w8, w16, w32}
 use Rattle.jv_table.specs.CodeRows.{OpForm}
 use Rattle.jv_table.specs.declared.code_tables.Form.{Form}

@@ -1,7 +1,6 @@
 -- What an instruction keeps that was decoded over the pool of a class file: names and types are in their form,
 -- and there are no more dimensions and no more words of arguments than the standard allows (JVMS 4.2, 4.3, 4.9.1).
-use Rattle.std.specs.Prelude.{◌≡◌, ◌<◌, ◌≤◌, ℕ, Bool, true, false, IsTrue, ◌==◌, List}
-use Rattle.jv_table.specs.declared.code_tables.Form.{Form}
+use Rattle.std.specs.Prelude.{◌≡◌, ◌<◌, ◌≤◌, ℕ, true, false}
 use Rattle.jv_table.specs.declared.code_tables.Form.TheVariants as forms
 use Rattle.jv_types.specs.declared.references.FieldRef.{FieldRef}
 use Rattle.jv_types.specs.declared.references.MethodRef.{MethodRef}

@@ -1,4 +1,5 @@
 pub mod Building
+pub mod Causes
 pub mod Decoding
 pub mod Effects
 pub mod Encoding

@@ -1,4 +1,4 @@
-ghost use Rattle.std.specs.Prelude.{◌≡◌, ℕ, List, [], ◌++◌, Some, true, false, Contains};
+ghost use Rattle.std.specs.Prelude.{◌≡◌, ◌↔◌, ℕ, List, [], ◌++◌, Some, true, false, Contains};
 ghost use Rattle.std.specs.List.{flat_map, AllByRecursion};
 ghost use Rattle.jv_types.specs.declared.instruction.Insn.{Insn};
 ghost use Rattle.jv_types.specs.declared.frames.VType.{VType};
@@ -11,7 +11,8 @@ ghost use Rattle.jv_types.specs.declared.frames.FramedBody.{FramedBody};
 ghost use Rattle.jv_types.specs.declared.raw_handler.RawHandler.{RawHandler};
 ghost use Rattle.jv_types.specs.declared.body.Body.{Body};
 ghost use Rattle.jv_pool.specs.declared.item.PoolItem.{PoolItem};
-ghost use Rattle.jv_insn.specs.Decoding.{Decodes, FailsAt};
+ghost use Rattle.jv_insn.specs.Causes.{IsOfClass, IsRefusedAt, IsFirstCause};
+ghost use Rattle.jv_insn.specs.Decoding.{Decodes, FailsAt, IsLeastFailure};
 ghost use Rattle.jv_insn.specs.Encoding.{IsSpelled, is_left_out, StandsNear, MayStand, MayEncode};
 ghost use Rattle.jv_names.specs.PoolNames.{IsNamedPool};
 ghost use Rattle.jv_insn.specs.Kept.{KeepsForm};
@@ -33,6 +34,15 @@ pub fn rows_are_effects()
         → (row.takes ≡ []) × (row.gives ≡ []) }
     ensures moves { (op : ℕ) (row : OpForm) (shuffle : Shuffle) → op_row op ≡ Some row → shuffle_of op ≡ Some shuffle
         → (row.takes ≡ []) × (row.gives ≡ []) }
+{}
+
+/// An instruction of a kind safe method takes the cells of its opcode's row, where the operands don't decide
+/// them, and gives those of the row: its operands are of the opcode's layout. This does nothing, and its contract
+/// is the law.
+pub fn kind_safe_instructions_are_of_their_row()
+    ensures { (world : List Shape) (framed : FramedBody) (pc : ℕ) (insn : Insn) (row : OpForm) → IsKindSafe world framed
+        → at_offset pc framed.body.insns ≡ Some insn → op_row insn.op ≡ Some row → decides_cells row.form ≡ false
+        → ((effect_of insn).takes ≡ row.takes) × ((effect_of insn).gives ≡ row.gives) }
 {}
 
 /// Words of a frame that hold cells have the kinds of these cells' words, and those below keep theirs. This
@@ -101,4 +111,16 @@ pub fn fitting_instructions_may_stand()
 pub fn codes_have_one_body()
     ensures { (pool : List PoolItem) (max_stack max_locals : ℕ) (code : List ℕ) (handlers : List RawHandler) (a b : Body)
         → Decodes pool max_stack max_locals code handlers a → Decodes pool max_stack max_locals code handlers b → a ≡ b }
+{}
+
+/// Over what a class file keeps of its pool and of an exception table, a code fails at an offset exactly where
+/// it has one of the causes of refusal there. So `decode` answers `At` exactly where there is a cause, with the
+/// least offset that has one. This does nothing, and its contract is the law.
+pub fn codes_fail_for_causes()
+    ensures fails { (pool : List PoolItem) (max_locals : ℕ) (code : List ℕ) (handlers : List RawHandler) (pc : ℕ) → IsOfClass pool handlers
+        → (FailsAt pool max_locals code handlers pc ↔ IsRefusedAt pool max_locals code handlers pc) }
+    ensures least { (pool : List PoolItem) (max_locals : ℕ) (code : List ℕ) (handlers : List RawHandler) (pc : ℕ) → IsOfClass pool handlers
+        → (IsLeastFailure pool max_locals code handlers pc ↔ IsFirstCause pool max_locals code handlers pc) }
+    ensures decodes { (pool : List PoolItem) (max_stack max_locals : ℕ) (code : List ℕ) (handlers : List RawHandler) (body : Body) (pc : ℕ)
+        → Decodes pool max_stack max_locals code handlers body → IsRefusedAt pool max_locals code handlers pc → ⊥ }
 {}

@@ -1,21 +1,9 @@
-use Rattle.std.proofs.Common.{◌≡◌, ℕ, List, Some, refl, sym}
-use Rattle.jv_types.specs.Bodies.{at_offset, IsStart}
-use Rattle.jv_types.specs.declared.frames.Frame.{Frame}
-use Rattle.jv_types.specs.declared.shapes.Shape.{Shape}
-use Rattle.jv_types.specs.declared.frames.FramedBody.{FramedBody}
-use Rattle.jv_insn.specs.Leaving.{Words}
-use Rattle.jv_insn.specs.Kinds.{WordKind}
-use Rattle.jv_insn.specs.KindSafe.{IsKindSafe, FitsAt}
-use Rattle.jv_insn.proofs.OneEach.{same_starts, value_of}
+-- Where a frame fits there is an instruction.
+use Rattle.std.proofs.Common.{refl}
+use Rattle.jv_types.specs.Bodies.{at_offset}
+use Rattle.jv_insn.proofs.OneEach.{value_of}
+use Rattle.jv_insn.proofs.KindSafe.{fits_start, frame_of}
 use Rattle.jv_insn.proofs.laws.kind_safe_places_are_instructions.Goals as goal
-
--- where a frame fits there is an instruction
-fits_start : (world : List Shape) (framed : FramedBody) → IsKindSafe world framed → (pc : ℕ) (words : Words WordKind) → FitsAt framed.frames pc words → IsStart framed.body.insns pc
-fits_start world framed safe pc words f = same_starts pc framed.frames framed.body.insns safe.one_each (rw f.stands refl)
-
--- an instruction has its frame
-frame_of : (world : List Shape) (framed : FramedBody) → IsKindSafe world framed → (pc : ℕ) → IsStart framed.body.insns pc → (frame : Frame) × (at_offset pc framed.frames ≡ Some frame)
-frame_of world framed safe pc s = value_of (at_offset pc framed.frames) (same_starts pc framed.body.insns framed.frames (sym safe.one_each) s)
 
 pub returns : goal.returns
 returns c = record {
