@@ -39,7 +39,7 @@ named_or_not (shape ∷ rest) name =
             false≢true (sym e ∙ (bytes_decides shape.name name).1 (ap (λ (s : Shape). s.name) own ∙ p.2))
         other (suc d) p = none d p
 
-among : (w : List Shape) (c : ℕ) (s : Shape) → slice_get w c ≡ Some s → Contains w s
+pub among : (w : List Shape) (c : ℕ) (s : Shape) → slice_get w c ≡ Some s → Contains w s
 among w c s at =
     let here : c < length w = slice_get_within w c s at in
     (c, here, same_Some (get_or w c s) s (sym (slice_get-get_or w c s here) ∙ at))

@@ -1,4 +1,5 @@
 mod Classes
+mod Renumbered
 mod Supertypes
 mod Members
 mod Finding
