@@ -1,13 +1,14 @@
 -- Classes of a world that stand in another one: their numbers, names and kinds, and that Object is there.
-use Rattle.std.proofs.Common.{◌≡◌, ℕ, zero, suc, ◌<◌, ◌⊎◌, Bool, true, false, List, [], ◌∷◌, Option, Some, None, length, get_or, nat_eq, Contains, slice_get, refl, sym, ap, ◌∙◌, subst, inl, inr, ⊎_elim, arith}
+use Rattle.std.proofs.Common.{◌≡◌, ℕ, zero, suc, ◌<◌, ◌⊎◌, Bool, true, false, List, [], ◌∷◌, Option, Some, None, length, nat_eq, Contains, slice_get, refl, sym, ap, ◌∙◌, subst, inl, inr, ⊎_elim, arith}
 use Rattle.std.specs.Prelude.{MatchOption, bit_and}
 use Rattle.std.specs.Cmp.Lexicographic.{pointwise, bytes_decides}
 use Rattle.std.proofs.lemmas.Bool.{false≢true}
-use Rattle.std.proofs.lemmas.Option.{same_Some, slice_get-get_or, slice_get_within}
+use Rattle.std.proofs.lemmas.Option.{same_Some}
 use Rattle.jv_types.specs.declared.access.Access.{Access}
 use Rattle.jv_types.specs.declared.shapes.Shape.{Shape}
 use Rattle.jv_world.specs.Worlds.{object_name, HasSuperclass, IsFinal, IsInterface, IsNamed, IsWorld}
 use Rattle.jv_resolve.proofs.Hierarchy.{super_here}
+use Rattle.jv_resolve.proofs.PlacesLemmas.{among_from_get}
 use Rattle.jv_resolve.specs.Members.{IsInterfaceClass}
 use Rattle.jv_two_worlds.specs.Renumbering.{IsSameClass, StandsIn}
 
@@ -39,17 +40,12 @@ named_or_not (shape ∷ rest) name =
             false≢true (sym e ∙ (bytes_decides shape.name name).1 (ap (λ (s : Shape). s.name) own ∙ p.2))
         other (suc d) p = none d p
 
-pub among : (w : List Shape) (c : ℕ) (s : Shape) → slice_get w c ≡ Some s → Contains w s
-among w c s at =
-    let here : c < length w = slice_get_within w c s at in
-    (c, here, same_Some (get_or w c s) s (sym (slice_get-get_or w c s here) ∙ at))
-
 -- what a class of a world names is there
 pub there : (w : List Shape) → IsWorld w → (c : ℕ) (s : Shape) (name : List ℕ) → slice_get w c ≡ Some s → (s.parent ≡ Some name) ⊎ Contains s.interfaces name → (d : ℕ) × IsNamed w d name
 there w world c s name at names =
     ⊎_elim
     (λ (found : (d : ℕ) × IsNamed w d name). found)
-    (λ (none : (d : ℕ) → IsNamed w d name → ⊥). absurd (world.none_absent name (record { shape = s; here = among w c s at; names = names; nowhere = none })))
+    (λ (none : (d : ℕ) → IsNamed w d name → ⊥). absurd (world.none_absent name (record { shape = s; here = among_from_get w c s at; names = names; nowhere = none })))
     (named_or_not w name)
 
 -- the superclass is there and right, or there is none and the class is Object
@@ -60,7 +56,7 @@ IsRightParent w name parent =
 -- the class is Object, or its superclass is there and leads to Object
 object_by : (w : List Shape) → IsWorld w → (c : ℕ) (s : Shape) → slice_get w c ≡ Some s → (parent : Option (List ℕ)) → s.parent ≡ parent
     → ((d : ℕ) → HasSuperclass w c d → (o : ℕ) × IsNamed w o object_name) → (o : ℕ) × IsNamed w o object_name
-object_by w world c s at None e on = (c, (s, at, subst (IsRightParent w s.name) e (world.right_supers s (among w c s at)).superclass))
+object_by w world c s at None e on = (c, (s, at, subst (IsRightParent w s.name) e (world.right_supers s (among_from_get w c s at)).superclass))
 object_by w world c s at (Some name) e on = let found = there w world c s name at (inl e) in on found.0 (s, name, at, e, found.1)
 
 -- superclass links lead to Object

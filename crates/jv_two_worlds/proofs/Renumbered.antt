@@ -3,8 +3,8 @@ use Rattle.std.proofs.Common.{◌≡◌, ℕ, zero, suc, List, [], ◌∷◌, �
 use Rattle.std.proofs.lemmas.Option.{slice_get-get_or}
 use Rattle.jv_types.specs.declared.shapes.Shape.{Shape}
 use Rattle.jv_world.specs.Worlds.{HaveDistinctNames, IsWorld}
+use Rattle.jv_resolve.proofs.PlacesLemmas.{among_from_get}
 use Rattle.jv_two_worlds.specs.Renumbering.{IsSameClass, StandsIn}
-use Rattle.jv_two_worlds.proofs.Classes.{among}
 
 same_itself : (s : Shape) → IsSameClass s s
 same_itself s = record { name = refl; flags = refl; parent = refl; interfaces = refl; fields = refl; methods = refl }
@@ -65,4 +65,4 @@ in_any_order w v world distinct each = (
 )
   where
     find : Find w v
-    find c s at = let own = each s (among w c s at) in (own.1.0, own.0, placed v own.0 own.1, own.2)
+    find c s at = let own = each s (among_from_get w c s at) in (own.1.0, own.0, placed v own.0 own.1, own.2)
