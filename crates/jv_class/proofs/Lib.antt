@@ -2,8 +2,8 @@ pub mod ListLemmas
 pub mod AllLemmas
 pub mod LayoutReading
 pub mod ClassTexts
-pub mod KindLemmas
-pub mod KeptLemmas
+pub mod AreKindsOf
+pub mod AreKept
 pub mod NumberedTexts
 pub mod MemberPairs
 pub mod MethodCodes

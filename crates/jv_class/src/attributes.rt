@@ -9,24 +9,7 @@ use jv_read::{Part, ReadFault, read_counted};
 use jv_types::Seq;
 use std::alloc::Global;
 
-/// An attribute of this owner (JVMS 4.7).
-fn read_one(
-    alloc: Global,
-    cursor: &mut Cursor,
-    pool: &Pool,
-    owner: Owner,
-    major: u16,
-) -> Result<Attr, ReadFault>
-    ensures { Gives (λ x. x) result cursor.new (attr_at pool.now owner major cursor.old) }
-{
-    match read_attr(alloc, cursor, pool, owner, major) {
-        Ok(attr) => Ok(attr),
-        Err(BadAttr::Bad) => Err(ReadFault::Bad),
-        Err(BadAttr::Memory) => Err(ReadFault::Memory),
-    }
-}
-
-/// The attributes of an owner, read one by one.
+/// The attributes of an owner (JVMS 4.7), read one by one.
 #[derive(Clone, Copy)]
 struct AttrPart<'p> {
     alloc: Global,
@@ -41,7 +24,11 @@ impl Part for AttrPart<'_> {
     ghost part_at = { λ p bytes. attr_at p.pool.now p.owner p.major bytes };
 
     fn read(&self, cursor: &mut Cursor) -> Result<Attr, ReadFault> {
-        read_one(self.alloc, cursor, self.pool, self.owner, self.major)
+        match read_attr(self.alloc, cursor, self.pool, self.owner, self.major) {
+            Ok(attr) => Ok(attr),
+            Err(BadAttr::Bad) => Err(ReadFault::Bad),
+            Err(BadAttr::Memory) => Err(ReadFault::Memory),
+        }
     }
 }
 

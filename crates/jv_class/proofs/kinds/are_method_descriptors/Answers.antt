@@ -1,5 +1,5 @@
 use Rattle.std.proofs.Common.{true, false}
-use Rattle.jv_class.proofs.KindLemmas.{few_words}
+use Rattle.jv_class.proofs.AreKindsOf.{few_words}
 use Rattle.jv_class.proofs.kinds.are_method_descriptors.Goals as goal
 
 pub returns-in-Ok-clause-without : goal.returns-in-Ok-clause-without

@@ -1,4 +1,4 @@
-use Rattle.jv_class.proofs.KeptLemmas.{names_some, names_none}
+use Rattle.jv_class.proofs.AreKept.{names_some, names_none}
 use Rattle.jv_class.proofs.texts.names_text.Goals as goal
 
 pub returns-in-Some : goal.returns-in-Some
