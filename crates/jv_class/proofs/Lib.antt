@@ -4,6 +4,5 @@ pub mod LayoutReading
 pub mod ClassTexts
 pub mod AreKindsOf
 pub mod AreKept
-pub mod NumberedTexts
 pub mod MemberPairs
 pub mod MethodCodes

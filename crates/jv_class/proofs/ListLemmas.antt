@@ -1,5 +1,5 @@
 -- Lists that grow by an element.
-use Rattle.std.proofs.Common.{◌≡◌, ◌+◌, ◌<◌, ℕ, zero, suc, List, [], ◌∷◌, ◌++◌, length, take, get_or, Some, refl, sym, ap, subst, ◌∙◌, arith}
+use Rattle.std.proofs.Common.{◌≡◌, ◌+◌, ◌<◌, ℕ, zero, suc, List, [], ◌∷◌, ◌++◌, length, take, get_or, None, Some, refl, sym, ap, subst, ◌∙◌, arith}
 use Rattle.std.specs.List.{AllZip, slice_get}
 use Rattle.std.proofs.lemmas.List.{take_more}
 use Rattle.std.proofs.lemmas.Option.{get_or_from_slice_get}
@@ -36,3 +36,7 @@ got (y ∷ ys) (suc i) lt = got ys i (omega arith)
 -- what an element of a list is, whatever stands past its end
 pub same_at : (xs : List ℕ) (i d e : ℕ) → i < length xs → get_or xs i d ≡ get_or xs i e
 same_at xs i d e lt = let it = got xs i lt in get_or_from_slice_get xs i it.0 d it.1 ∙ sym (get_or_from_slice_get xs i it.0 e it.1)
+
+-- nothing is no element
+pub no_some : {X : Type 0} (a : X) → None ≡ Some a → ⊥
+no_some a e = cc

@@ -10,6 +10,7 @@ use Rattle.std.specs.Cmp.{IsTotalOrder}
 use Rattle.std.proofs.lemmas.Cmp.{then_total, on_total, nat_cmp_total, eq_by_cmp_equiv}
 use Rattle.std.proofs.lemmas.Map.Lookups.{exact_pairs, exact_unsigned}
 use Rattle.std.proofs.lemmas.Option.{slice_get_within}
+use Rattle.jv_read.proofs.Fronts.{some_is}
 use Rattle.jv_equality.specs.Equality.{TellsApart}
 use Rattle.jv_equality.proofs.Exact.{is_eq-Equal, told_apart}
 use Rattle.jv_pool.specs.declared.item.PoolItem.{PoolItem}
@@ -20,8 +21,7 @@ use Rattle.jv_class.specs.Steps.MemberPairs.{number_at, pair_of, pair_cmp, has, 
 use Rattle.jv_class.specs.Steps.PoolTexts.{NamesText}
 use Rattle.jv_class.specs.Steps.TextNumbers.{text_of, AreNumbers}
 use Rattle.jv_class.proofs.AllLemmas.{all_from}
-use Rattle.jv_class.proofs.ListLemmas.{got}
-use Rattle.jv_class.proofs.NumberedTexts.{some_one, no_some}
+use Rattle.jv_class.proofs.ListLemmas.{got, no_some}
 
 -- ---- pairs
 
@@ -92,14 +92,14 @@ numbers_same : (items : List PoolItem) (numbers : List ℕ) (x y : ℕ) → AreN
 numbers_same items numbers x y h p q e =
     let s = stands items numbers x p.text h p.found in
     let t = stands items numbers y q.text h q.found in
-    let texts : p.text ≡ q.text = some_one p.text q.text (sym p.found ∙ e ∙ q.found) in
+    let texts : p.text ≡ q.text = some_is p.text q.text (sym p.found ∙ e ∙ q.found) in
     s.at ∙ h.one s.place t.place s.number t.number p.text s.text_is (t.text_is ∙ ap (λ (z : List ℕ). Some z) (sym texts)) s.number_is t.number_is ∙ sym t.at
 
 -- ---- members one after the other
 
 all_get : {X : Type 0} (P : X → Type 0) (xs : List X) (i : ℕ) (x : X) → AllByRecursion P xs → slice_get xs i ≡ Some x → P x
 all_get P [] i x h e = absurd (no_some x e)
-all_get P (y ∷ ys) zero x h e = subst P (some_one y x e) h.0
+all_get P (y ∷ ys) zero x h e = subst P (some_is y x e) h.0
 all_get P (y ∷ ys) (suc i) x h e = all_get P ys i x h.1 e
 
 pub record SoFar (numbers : List ℕ) (members : List Member) (count : ℕ) (pairs : BTreeSet (ℕ × ℕ)) : Type 0 where
@@ -140,7 +140,7 @@ goes_on numbers members i old new m s at none adds = record {
 }
   where
     member_is : (j : ℕ) (a : Member) → j ≡ i → slice_get members j ≡ Some a → m ≡ a
-    member_is j a last e = some_one m a (sym at ∙ ap (slice_get members) (sym last) ∙ e)
+    member_is j a last e = some_is m a (sym at ∙ ap (slice_get members) (sym last) ∙ e)
 
     new_pair : (a b : Member) → IsTrue (has old (pair_of numbers a)) → m ≡ b → pair_of numbers a ≡ pair_of numbers b → ⊥
     new_pair a b had is e =

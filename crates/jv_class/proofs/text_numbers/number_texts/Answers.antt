@@ -6,7 +6,7 @@ use Rattle.std.proofs.lemmas.Option.{slice_get_read}
 use Rattle.jv_pool.specs.declared.item.PoolItem.{PoolItem}
 use Rattle.jv_pool.specs.Lookups.{text_in}
 use Rattle.jv_class.specs.Steps.TextNumbers.{text_of}
-use Rattle.jv_class.proofs.NumberedTexts.{goes_on, is_done}
+use Rattle.jv_class.proofs.text_numbers.number_texts.Invariants.Steps.{goes_on, is_done}
 use Rattle.jv_class.proofs.text_numbers.number_texts.Goals as goal
 
 pub loop-place-preserved : goal.loop-place-preserved

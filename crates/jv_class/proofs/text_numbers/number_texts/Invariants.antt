@@ -1,5 +1,6 @@
 -- The texts so far have their numbers.
-use Rattle.jv_class.proofs.NumberedTexts.{SoFar}
+pub mod Steps
+use Rattle.jv_class.proofs.text_numbers.number_texts.Invariants.Steps.{SoFar}
 use Rattle.jv_class.proofs.text_numbers.number_texts.Given as goal
 
 abbrev pub invariant-loop-place : goal.invariant-loop-place

@@ -1,4 +1,4 @@
--- Texts that are numbered one after the other have one number exactly where they are equal.
+-- Texts that are numbered one after the other have one number exactly where they are equal: the steps of the loop.
 use Rattle.std.proofs.Common.{◌≡◌, ◌+◌, ◌<◌, ℕ, Bool, true, false, cond, Bor, List, [], ◌∷◌, ◌++◌, length, Option, Some, None, refl, sym, ap, ◌∙◌, arith, length-append, inl, inr, ◌⊎◌}
 use Rattle.std.specs.Prelude.{unwrap_or}
 use Rattle.std.specs.List.{slice_get}
@@ -7,22 +7,10 @@ use Rattle.std.specs.BTreeMap.{BTreeMap, IsEmpty}
 use Rattle.std.proofs.lemmas.Option.{slice_get_within}
 use Rattle.std.proofs.lemmas.Slice.Eq.{bytes_eq-Decides}
 use Rattle.std.proofs.lemmas.Bool.{false_from_ne_true}
+use Rattle.jv_read.proofs.Fronts.{some_is}
 use Rattle.jv_pool.specs.declared.item.PoolItem.{PoolItem}
-use Rattle.jv_class.proofs.ListLemmas.{get_last, get_front, got}
+use Rattle.jv_class.proofs.ListLemmas.{get_last, get_front, got, no_some}
 use Rattle.jv_class.specs.Steps.TextNumbers.{number_in, Numbers, NumbersItem, text_of, AreNumbers}
-
--- ---- equations of options
-
-value_of : {X : Type 0} → X → Option X → X
-value_of d (Some x) = x
-value_of d None = d
-
-pub some_one : {X : Type 0} (a b : X) → Some a ≡ Some b → a ≡ b
-unfolding value_of
-some_one a b e = ap (value_of a) e
-
-pub no_some : {X : Type 0} (a : X) → None ≡ Some a → ⊥
-no_some a e = cc
 
 -- ---- as far as the loop has come
 
@@ -81,11 +69,11 @@ takes items i old new numbers number text s is h = record {
   known_is = λ j a lt e. elim (split_last j i lt) [
     | inl below ↦ get_front numbers number j (let b = s.len in omega arith) ∙ s.known_is j a below e ∙ before j a below e
     | inr last ↦
-        let same : text ≡ a = some_one text a (sym is ∙ sym (ap (text_of items) last) ∙ e) in
+        let same : text ≡ a = some_is text a (sym is ∙ sym (ap (text_of items) last) ∙ e) in
         ap (slice_get (numbers ++ number ∷ [])) (last ∙ sym s.len) ∙ get_last numbers number ∙ sym (own_number old new text a number h.1 same)
   ];
   sound = λ m a e. elim (same_or_not text a) [
-    | inl same ↦ own m a same (some_one number m (sym (own_number old new text a number h.1 same) ∙ e)) (number_in old text) refl
+    | inl same ↦ own m a same (some_is number m (sym (own_number old new text a number h.1 same) ∙ e)) (number_in old text) refl
     | inr differ ↦ let t = s.sound m a (sym (other_number old new text a number h.1 differ) ∙ e) in (let lt = t.0 in omega arith, t.1)
   ];
 }
@@ -121,9 +109,9 @@ is_done items i known numbers all s = record {
       let lb = slice_get_within numbers k m nb in
       let ea : number_in known a ≡ Some m = sym (s.known_is j a (let l = s.len in omega arith) ta) ∙ na in
       let eb : number_in known b ≡ Some m = sym (s.known_is k b (let l = s.len in omega arith) tb) ∙ nb in
-      some_one a b (sym (s.sound m a ea).1 ∙ (s.sound m b eb).1);
+      some_is a b (sym (s.sound m a ea).1 ∙ (s.sound m b eb).1);
   one = λ j k m n a ta tb na nb.
       let la = slice_get_within numbers j m na in
       let lb = slice_get_within numbers k n nb in
-      some_one m n (sym na ∙ s.known_is j a (let l = s.len in omega arith) ta ∙ sym (s.known_is k a (let l = s.len in omega arith) tb) ∙ nb);
+      some_is m n (sym na ∙ s.known_is j a (let l = s.len in omega arith) ta ∙ sym (s.known_is k a (let l = s.len in omega arith) tb) ∙ nb);
 }
