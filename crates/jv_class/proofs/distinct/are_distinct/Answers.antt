@@ -4,7 +4,7 @@ use Rattle.std.proofs.lemmas.Option.{slice_get_read}
 use Rattle.jv_class.specs.Steps.MemberPairs.{pair_of, has}
 use Rattle.jv_class.specs.ClassTexts.{AreDistinct}
 use Rattle.jv_class.proofs.AllLemmas.{refuted}
-use Rattle.jv_class.proofs.MemberPairs.{goes_on, all_differ, one_again, was_there, was_new}
+use Rattle.jv_class.proofs.distinct.are_distinct.Invariants.Steps.{goes_on, all_differ, one_again, was_there, was_new}
 use Rattle.jv_class.proofs.distinct.are_distinct.Goals as goal
 
 pub returns-then-not-added : goal.returns-then-not-added

@@ -1,5 +1,6 @@
 -- The pairs so far are those of the members so far, which differ.
-use Rattle.jv_class.proofs.MemberPairs.{SoFar}
+pub mod Steps
+use Rattle.jv_class.proofs.distinct.are_distinct.Invariants.Steps.{SoFar}
 use Rattle.jv_class.proofs.distinct.are_distinct.Given as goal
 
 abbrev pub invariant-loop-member : goal.invariant-loop-member
