@@ -10,9 +10,9 @@ use Rattle.jv_types.specs.declared.shapes.Shape.{Shape}
 use Rattle.jv_world.specs.Worlds.{Sub, same, link}
 use Rattle.jv_resolve.specs.Members.{DeclaresMethod}
 use Rattle.jv_resolve.specs.Inheriting.{IsNearest, HasNone, IsSingleDefault, HasNoSingleDefault}
-use Rattle.jv_resolve.specs.Among.{AreSuperinterfaceMethods, IsSingleAmong}
-use Rattle.jv_resolve.specs.Targets.{IsTarget, AreClasses}
-use Rattle.jv_resolve.specs.DepthFirst.{Leads, IsFirstWay, IsFirstBy, IsFirst}
+use Rattle.jv_resolve.specs.Steps.Among.{AreSuperinterfaceMethods, IsSingleAmong}
+use Rattle.jv_resolve.specs.Steps.Targets.{IsTarget, AreClasses}
+use Rattle.jv_resolve.specs.DepthFirst.{LeadsUpTo, IsFirstWay, IsFirstBy, IsFirst}
 use Rattle.jv_resolve.specs.Resolving.{DeclaresFor, ResolvesAbove, ResolvesInClass, IsObjectMethod, ResolvesInInterface}
 use Rattle.jv_resolve.proofs.Going.{way_super}
 use Rattle.jv_resolve.proofs.MembersLemmas.{declared_here, class_here, class_is}
@@ -67,7 +67,7 @@ targets_here w c name desc ms exact = record {
 
 -- ---- the first one, by either predicate
 
-leads_by : (w : List Shape) (P Q : ℕ → Type 0) → ((e : ℕ) → P e → Q e) → (d : ℕ) → Leads w P d → Leads w Q d
+leads_by : (w : List Shape) (P Q : ℕ → Type 0) → ((e : ℕ) → P e → Q e) → (d : ℕ) → LeadsUpTo w P d → LeadsUpTo w Q d
 leads_by w P Q f d p = (p.0, p.1, f p.0 p.2)
 
 way_by : (w : List Shape) (P Q : ℕ → Type 0) → ((e : ℕ) → P e → Q e) → ((e : ℕ) → Q e → P e) → (c d : ℕ) → IsFirstWay w P c d → IsFirstWay w Q c d
@@ -91,7 +91,7 @@ first_by w P Q f g (suc n) c d p = ((λ q. p.0 (g c q)), p.1, way_by w P Q f g c
 pub first_same : (w : List Shape) (P Q : ℕ → Type 0) → ((e : ℕ) → P e → Q e) → ((e : ℕ) → Q e → P e) → (c d : ℕ) → IsFirst w P c d → IsFirst w Q c d
 first_same w P Q f g c d p = (p.0, first_by w P Q f g p.0 c d p.1)
 
-pub leads_same : (w : List Shape) (P Q : ℕ → Type 0) → ((e : ℕ) → P e → Q e) → (c : ℕ) → Leads w P c → Leads w Q c
+pub leads_same : (w : List Shape) (P Q : ℕ → Type 0) → ((e : ℕ) → P e → Q e) → (c : ℕ) → LeadsUpTo w P c → LeadsUpTo w Q c
 leads_same w P Q f c p = leads_by w P Q f c p
 
 -- what is first is such a one, at the class or above it
@@ -106,7 +106,7 @@ first_sub_by : (w : List Shape) (P : ℕ → Type 0) (n c d : ℕ) → IsFirstBy
 first_sub_by w P zero c d p = same c d p.0
 first_sub_by w P (suc n) c d p = link c p.1 d (way_super w P c p.1 p.2) (first_sub_by w P n p.1 d p.3)
 
-pub first_leads : (w : List Shape) (P : ℕ → Type 0) (c d : ℕ) → IsFirst w P c d → Leads w P c
+pub first_leads : (w : List Shape) (P : ℕ → Type 0) (c d : ℕ) → IsFirst w P c d → LeadsUpTo w P c
 first_leads w P c d p = (d, first_sub_by w P p.0 c d p.1, first_holds w P c d p)
 
 -- ---- above a class
@@ -115,7 +115,7 @@ pub no_default : (w : List Shape) (c : ℕ) (name : List ℕ) (desc : MethodDesc
     → ((m : MethodId) → IsSingleAmong w ms m → ⊥) → (m : MethodId) → IsSingleDefault w c name desc m → ⊥
 no_default w c name desc ms exact none m p = none m (single_among w c name desc ms m exact p)
 
-pub nothing_above : (w : List Shape) (c : ℕ) (name : List ℕ) (desc : MethodDesc) → HasNoSingleDefault w c name desc → (Leads w (DeclaresFor w c name desc) c → ⊥)
+pub nothing_above : (w : List Shape) (c : ℕ) (name : List ℕ) (desc : MethodDesc) → HasNoSingleDefault w c name desc → (LeadsUpTo w (DeclaresFor w c name desc) c → ⊥)
     → (m : MethodId) → ResolvesAbove w c name desc m → ⊥
 nothing_above w c name desc none nowhere m p = pick p.found
   where

@@ -10,7 +10,7 @@ use Rattle.jv_resolve.specs.declared.nearest.Wanted.{Wanted}
 use Rattle.jv_resolve.specs.declared.nearest.Wanted.TheVariants.{Declared, Inherited, Overriding, Special}
 use Rattle.jv_resolve.specs.Members.{DeclaresMethod}
 use Rattle.jv_resolve.specs.Inheriting.{IsNearest, HasNone}
-use Rattle.jv_resolve.specs.Wanted.{IsWanted}
+use Rattle.jv_resolve.specs.Steps.Wanted.{IsWanted}
 use Rattle.jv_resolve.proofs.Hierarchy.{climbs_more, one_climb, climbs_past, super_here}
 use Rattle.jv_resolve.proofs.MembersLemmas.{declares_one}
 

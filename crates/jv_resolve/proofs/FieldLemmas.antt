@@ -9,9 +9,9 @@ use Rattle.jv_types.specs.declared.ids.FieldId.{FieldId}
 use Rattle.jv_types.specs.declared.references.FieldRef.{FieldRef}
 use Rattle.jv_types.specs.declared.shapes.Shape.{Shape}
 use Rattle.jv_world.specs.Worlds.{IsNamed, Sub, same, link, ProperSub, AreProperSupers, IsWorld}
-use Rattle.jv_resolve.specs.DepthFirst.{Leads, IsFirstWay, IsFirstBy, IsFirst}
+use Rattle.jv_resolve.specs.DepthFirst.{LeadsUpTo, IsFirstWay, IsFirstBy, IsFirst}
 use Rattle.jv_resolve.specs.Resolving.{DeclaresFieldIn, ResolvesField}
-use Rattle.jv_resolve.specs.Targets.{IsTarget, AreClasses, AreDeclaring}
+use Rattle.jv_resolve.specs.Steps.Targets.{IsTarget, AreClasses, AreDeclaring}
 use Rattle.jv_resolve.proofs.AboveLemmas.{first_leads}
 use Rattle.jv_resolve.proofs.Going.{way_super, super_from_place}
 use Rattle.jv_resolve.proofs.Hierarchy.{sub_itself, sub_cases, sub_from_proper, sub_here}
@@ -84,7 +84,7 @@ fields_end w c name desc supers n ds past exact none before = record {
 
 -- ---- the first one, by either predicate, above a class
 
-leads_above : (w : List Shape) (P Q : ℕ → Type 0) (d : ℕ) → ((e : ℕ) → Sub w d e → P e → Q e) → Leads w P d → Leads w Q d
+leads_above : (w : List Shape) (P Q : ℕ → Type 0) (d : ℕ) → ((e : ℕ) → Sub w d e → P e → Q e) → LeadsUpTo w P d → LeadsUpTo w Q d
 leads_above w P Q d f p = (p.0, p.1, f p.0 p.1 p.2)
 
 way_above : (w : List Shape) (P Q : ℕ → Type 0) (c d : ℕ) → ((e : ℕ) → Sub w c e → P e → Q e) → ((e : ℕ) → Sub w c e → Q e → P e) → IsFirstWay w P c d → IsFirstWay w Q c d
@@ -123,7 +123,7 @@ field_target w c name desc ds exact e s p = let d : ClassId = record { number = 
 pub target_field : (w : List Shape) (c : ℕ) (name : List ℕ) (desc : Desc) (ds : List ClassId) → AreDeclaring w c name desc ds → (e : ℕ) → IsTarget ds e → DeclaresFieldIn w name desc e
 target_field w c name desc ds exact e t = let d : ClassId = record { number = e } in (exact.only d t).1
 
-pub field_leads : (w : List Shape) (c : ℕ) (name : List ℕ) (desc : Desc) (ds : List ClassId) → AreDeclaring w c name desc ds → Leads w (DeclaresFieldIn w name desc) c → Leads w (IsTarget ds) c
+pub field_leads : (w : List Shape) (c : ℕ) (name : List ℕ) (desc : Desc) (ds : List ClassId) → AreDeclaring w c name desc ds → LeadsUpTo w (DeclaresFieldIn w name desc) c → LeadsUpTo w (IsTarget ds) c
 field_leads w c name desc ds exact p = (p.0, p.1, field_target w c name desc ds exact p.0 p.1 p.2)
 
 pub fields_here : (w : List Shape) (c : ℕ) (name : List ℕ) (desc : Desc) (ds : List ClassId) → c < length w → AreDeclaring w c name desc ds → AreClasses w ds
@@ -131,6 +131,6 @@ fields_here w c name desc ds here exact = record { here = λ d among. sub_here w
 
 -- ---- the reference
 
-pub no_field : (w : List Shape) (r : FieldRef) (named : ℕ) → IsWorld w → IsNamed w named r.class → (Leads w (DeclaresFieldIn w r.name r.desc) named → ⊥) → (f : FieldId) → ResolvesField w r f → ⊥
+pub no_field : (w : List Shape) (r : FieldRef) (named : ℕ) → IsWorld w → IsNamed w named r.class → (LeadsUpTo w (DeclaresFieldIn w r.name r.desc) named → ⊥) → (f : FieldId) → ResolvesField w r f → ⊥
 no_field w r named world name none f p =
-    none (subst (Leads w (DeclaresFieldIn w r.name r.desc)) (world.numbered.distinct p.named named r.class p.name name) (first_leads w (DeclaresFieldIn w r.name r.desc) p.named f.class.number p.first))
+    none (subst (LeadsUpTo w (DeclaresFieldIn w r.name r.desc)) (world.numbered.distinct p.named named r.class p.name name) (first_leads w (DeclaresFieldIn w r.name r.desc) p.named f.class.number p.first))

@@ -6,7 +6,8 @@ use Rattle.std.proofs.lemmas.Bool.{cases_lt}
 use Rattle.std.proofs.lemmas.Option.{slice_get_within}
 use Rattle.jv_types.specs.declared.shapes.Shape.{Shape}
 use Rattle.jv_world.specs.Worlds.{IsNamed, HasInterface, HasSuper, Sub, same, link, IsWorld}
-use Rattle.jv_resolve.specs.DepthFirst.{direct_supers, Leads, NoneLeads, IsFirstLeading, IsFirstWay, IsFirstBy, IsFirst}
+use Rattle.jv_resolve.specs.Steps.Targets.{NoneLeads}
+use Rattle.jv_resolve.specs.DepthFirst.{direct_supers, LeadsUpTo, IsFirstLeading, IsFirstWay, IsFirstBy, IsFirst}
 use Rattle.jv_resolve.proofs.Hierarchy.{one_shape, super_here}
 use Rattle.jv_resolve.proofs.PlacesLemmas.{read_at, among_from_get}
 
@@ -64,7 +65,7 @@ way_interface w P c s d at way =
 
 -- the first way by the superclass
 pub way_parent : (w : List Shape) (P : ℕ → Type 0) (c : ℕ) (s : Shape) (name : List ℕ) (d : ℕ) → slice_get w c ≡ Some s → NoneLeads w P s.interfaces
-    → s.parent ≡ Some name → IsNamed w d name → Leads w P d → IsFirstWay w P c d
+    → s.parent ≡ Some name → IsNamed w d name → LeadsUpTo w P d → IsFirstWay w P c d
 way_parent w P c s name d at none parent named leads = (
   s,
   at,
@@ -78,7 +79,7 @@ way_parent w P c s name d at none parent named leads = (
   },
 )
 
-interface_none : (w : List Shape) (P : ℕ → Type 0) (c : ℕ) (s : Shape) → slice_get w c ≡ Some s → NoneLeads w P s.interfaces → (d : ℕ) → HasInterface w c d → Leads w P d → ⊥
+interface_none : (w : List Shape) (P : ℕ → Type 0) (c : ℕ) (s : Shape) → slice_get w c ≡ Some s → NoneLeads w P s.interfaces → (d : ℕ) → HasInterface w c d → LeadsUpTo w P d → ⊥
 interface_none w P c s at none d step leads =
     let same : step.0 ≡ s = one_shape w c step.0 s step.2 at in
     let among : Contains s.interfaces step.1 = subst (λ (t : Shape). Contains t.interfaces step.1) same step.3 in
@@ -86,7 +87,7 @@ interface_none w P c s at none d step leads =
 
 -- no way, where the superclass has none either
 pub no_way_parent : (w : List Shape) (P : ℕ → Type 0) (c : ℕ) (s : Shape) (name : List ℕ) → slice_get w c ≡ Some s → NoneLeads w P s.interfaces → s.parent ≡ Some name
-    → ((d : ℕ) → IsNamed w d name → Leads w P d → ⊥) → (d : ℕ) → HasSuper w c d → Leads w P d → ⊥
+    → ((d : ℕ) → IsNamed w d name → LeadsUpTo w P d → ⊥) → (d : ℕ) → HasSuper w c d → LeadsUpTo w P d → ⊥
 no_way_parent w P c s name at none parent above d (inl step) leads =
     let same : step.0 ≡ s = one_shape w c step.0 s step.2 at in
     let names : Some step.1 ≡ Some name = sym step.3 ∙ ap (λ (t : Shape). t.parent) same ∙ parent in
@@ -96,7 +97,7 @@ no_way_parent w P c s name at none parent above d (inr step) leads = interface_n
 
 -- no way, where there is no superclass
 pub no_way : (w : List Shape) (P : ℕ → Type 0) (c : ℕ) (s : Shape) → slice_get w c ≡ Some s → NoneLeads w P s.interfaces → s.parent ≡ None
-    → (d : ℕ) → HasSuper w c d → Leads w P d → ⊥
+    → (d : ℕ) → HasSuper w c d → LeadsUpTo w P d → ⊥
 no_way w P c s at none parent d (inl step) leads =
     let same : step.0 ≡ s = one_shape w c step.0 s step.2 at in
     let names : Some step.1 ≡ None = sym step.3 ∙ ap (λ (t : Shape). t.parent) same ∙ parent in
@@ -126,7 +127,7 @@ way_super w P c d way = super_from_place w c way.0 way.2.place way.2.name d way.
 pub record IsGoing (w : List Shape) (P : ℕ → Type 0) (c links at : ℕ) : Type 0 where
   pub here : at < length w
   pub ways : Ways w P links c at
-  pub still : Leads w P c → Leads w P at
+  pub still : LeadsUpTo w P c → LeadsUpTo w P at
   pub world : IsWorld w
   pub low : world.rank at + links ≤ world.rank c
 
@@ -148,14 +149,14 @@ pub going_found : (w : List Shape) (P : ℕ → Type 0) (c links at : ℕ) → I
 going_found w P c links at before holds = (links, ways_end w P links c at before.ways holds)
 
 -- where nothing above and not the class itself is such a one, nothing leads there
-pub nothing_leads : (w : List Shape) (P : ℕ → Type 0) (c : ℕ) → (P c → ⊥) → ((d : ℕ) → HasSuper w c d → Leads w P d → ⊥) → Leads w P c → ⊥
+pub nothing_leads : (w : List Shape) (P : ℕ → Type 0) (c : ℕ) → (P c → ⊥) → ((d : ℕ) → HasSuper w c d → LeadsUpTo w P d → ⊥) → LeadsUpTo w P c → ⊥
 nothing_leads w P c none ways leads = go c leads.0 leads.1 leads.2 none ways
   where
-    go : (c e : ℕ) → Sub w c e → P e → (P c → ⊥) → ((d : ℕ) → HasSuper w c d → Leads w P d → ⊥) → ⊥
+    go : (c e : ℕ) → Sub w c e → P e → (P c → ⊥) → ((d : ℕ) → HasSuper w c d → LeadsUpTo w P d → ⊥) → ⊥
     go c e (same x y p) holds none ways = none (subst P (sym p) holds)
     go c e (link x y z step rest) holds none ways = ways y step (z, rest, holds)
 
-pub going_end : (w : List Shape) (P : ℕ → Type 0) (c links at : ℕ) → IsGoing w P c links at → (P at → ⊥) → ((d : ℕ) → HasSuper w at d → Leads w P d → ⊥) → Leads w P c → ⊥
+pub going_end : (w : List Shape) (P : ℕ → Type 0) (c links at : ℕ) → IsGoing w P c links at → (P at → ⊥) → ((d : ℕ) → HasSuper w at d → LeadsUpTo w P d → ⊥) → LeadsUpTo w P c → ⊥
 going_end w P c links at before none ways leads = nothing_leads w P at none ways (before.still leads)
 
 pub going_past : (w : List Shape) (P : ℕ → Type 0) (c links at : ℕ) → IsGoing w P c links at → c < length w → length w ≤ links → ⊥

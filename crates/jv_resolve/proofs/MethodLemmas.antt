@@ -7,7 +7,7 @@ use Rattle.jv_types.specs.declared.shapes.Shape.{Shape}
 use Rattle.std.specs.Prelude.{unwrap_or}
 use Rattle.jv_world.specs.Worlds.{IsNamed, IsWorld, object_name}
 use Rattle.jv_resolve.specs.Members.{DeclaresMethod, IsInterfaceClass, init_name}
-use Rattle.jv_resolve.specs.References.{BeginsAt, NamesInterface}
+use Rattle.jv_resolve.specs.References.{BeginsAt, IsInterfaceType}
 use Rattle.jv_resolve.specs.Resolving.{IsInitKept, ResolvesInClass, ResolvesInInterface, ResolvesMethod, ResolvesInterfaceMethod}
 use Rattle.jv_resolve.proofs.ReferenceLemmas.{begins_named}
 
@@ -50,7 +50,7 @@ pub nothing_from_interface : (w : List Shape) (r : MethodRef) (start : ℕ) → 
 nothing_from_interface w r start one none m p =
     none m (subst (λ (c : ℕ). ResolvesInInterface w c r.name r.desc m) (one p.start (interface_begins w r m p)) p.found) p.init
 
-pub resolves_interface : (w : List Shape) (r : MethodRef) (start : ℕ) (m : MethodId) → ((d : ℕ) → BeginsAt w r.class d → d ≡ start) → NamesInterface w r.class → BeginsAt w r.class start
+pub resolves_interface : (w : List Shape) (r : MethodRef) (start : ℕ) (m : MethodId) → ((d : ℕ) → BeginsAt w r.class d → d ≡ start) → IsInterfaceType w r.class → BeginsAt w r.class start
     → ResolvesInInterface w start r.name r.desc m → IsInitKept w r m → ResolvesInterfaceMethod w r m
 resolves_interface w r start m one names begins found init =
     let there : names.1 ≡ start = one names.1 (subst (λ (o : Option (List ℕ)). IsNamed w names.1 (unwrap_or o object_name)) (sym names.2) names.3) in

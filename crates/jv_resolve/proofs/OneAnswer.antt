@@ -18,7 +18,7 @@ use Rattle.jv_resolve.specs.DepthFirst.{direct_supers, IsFirstLeading, IsFirstWa
 use Rattle.jv_resolve.specs.References.{named_class}
 use Rattle.jv_resolve.specs.Resolving.{DeclaresFieldIn, ResolvesField, DeclaresFor, ResolvesAbove, ResolvesInClass, ResolvesInInterface, ResolvesMethod, ResolvesInterfaceMethod}
 use Rattle.jv_resolve.specs.Selecting.{SelectsBy, SelectsVirtual, SelectsInterface, SpecialStart, FindsInInterface, SelectsFrom, SelectsSpecial}
-use Rattle.jv_resolve.specs.Wanted.{IsWanted}
+use Rattle.jv_resolve.specs.Steps.Wanted.{IsWanted}
 use Rattle.jv_resolve.proofs.AboveLemmas.{nearest_or_none}
 use Rattle.jv_resolve.proofs.Hierarchy.{one_shape, one_superclass}
 use Rattle.jv_resolve.proofs.MembersLemmas.{declares_one, declares_one_field}

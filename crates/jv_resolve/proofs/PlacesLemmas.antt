@@ -4,7 +4,7 @@ use Rattle.std.specs.List.{slice_get, Contains}
 use Rattle.std.proofs.lemmas.Option.{slice_get_read, slice_get_within, slice_get-get_or, get_or_from_slice_get}
 use Rattle.std.proofs.lemmas.Bool.{cases_lt}
 use Rattle.std.proofs.lemmas.List.{take_more}
-use Rattle.jv_resolve.specs.Places.{NoneBelow, NoneIn}
+use Rattle.jv_world.specs.MemberPlaces.{NoneBelow, NoneIn}
 
 -- the element of which the loop speaks
 pub read_at : {X : Type 0} (xs : List X) (i : ℕ) (x : X) → i < length xs → x ≡ get_or xs i x → slice_get xs i ≡ Some x

@@ -6,16 +6,16 @@ use Rattle.jv_types.specs.declared.desc.RefType.{RefType}
 use Rattle.jv_types.specs.declared.shapes.Shape.{Shape}
 use Rattle.jv_world.specs.Worlds.{IsNamed, IsSubclass, IsWorld, object_name}
 use Rattle.jv_resolve.specs.Members.{IsInterfaceClass}
-use Rattle.jv_resolve.specs.References.{named_class, BeginsAt, NamesInterface}
+use Rattle.jv_resolve.specs.References.{named_class, BeginsAt, IsInterfaceType}
 use Rattle.jv_resolve.specs.Access.{IsInLine, IsProtectedAccess, HasAccess}
 
-pub names_none : (w : List Shape) (type : RefType) (name : List ℕ) → Some name ≡ named_class type → ((c : ℕ) → IsNamed w c name → ⊥) → NamesInterface w type → ⊥
+pub names_none : (w : List Shape) (type : RefType) (name : List ℕ) → Some name ≡ named_class type → ((c : ℕ) → IsNamed w c name → ⊥) → IsInterfaceType w type → ⊥
 names_none w type name e none p =
     let some : Some p.0 ≡ Some name = sym p.2 ∙ sym e in
     let is : p.0 ≡ name = cc in
     none p.1 (subst (IsNamed w p.1) is p.3)
 
-pub names_one : (w : List Shape) (type : RefType) (name : List ℕ) (d : ℕ) → IsWorld w → Some name ≡ named_class type → IsNamed w d name → NamesInterface w type → IsInterfaceClass w d
+pub names_one : (w : List Shape) (type : RefType) (name : List ℕ) (d : ℕ) → IsWorld w → Some name ≡ named_class type → IsNamed w d name → IsInterfaceType w type → IsInterfaceClass w d
 names_one w type name d world e named p =
     let some : Some p.0 ≡ Some name = sym p.2 ∙ sym e in
     let is : p.0 ≡ name = cc in

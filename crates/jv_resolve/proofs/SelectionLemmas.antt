@@ -9,7 +9,7 @@ use Rattle.jv_world.specs.Worlds.{Climbs, IsWorld}
 use Rattle.jv_resolve.specs.declared.nearest.Wanted.{Wanted}
 use Rattle.jv_resolve.specs.Members.{IsMethod, IsConcrete}
 use Rattle.jv_resolve.specs.Inheriting.{IsNearest, HasNone, IsSingleDefault}
-use Rattle.jv_resolve.specs.Wanted.{IsWanted}
+use Rattle.jv_resolve.specs.Steps.Wanted.{IsWanted}
 use Rattle.jv_resolve.specs.Selecting.{IsCandidate, IsOverrider, SelectsBy, SelectsVirtual, SelectsInterface}
 use Rattle.jv_resolve.proofs.AboveLemmas.{nearest_or_none}
 use Rattle.jv_resolve.proofs.Climbing.{wanted_declared}

@@ -9,7 +9,7 @@ use Rattle.jv_types.specs.declared.ids.MethodId.{MethodId}
 use Rattle.jv_types.specs.declared.shapes.Shape.{Shape}
 use Rattle.jv_world.specs.Worlds.{ProperSub, AreProperSupers}
 use Rattle.jv_resolve.specs.Inheriting.{IsInterfaceMethod, IsSuperinterfaceMethod, IsMaximallySpecific, IsSingleDefault}
-use Rattle.jv_resolve.specs.Among.{AreSuperinterfaceMethods, AreHere, IsSpecificAmong, IsSingleAmong}
+use Rattle.jv_resolve.specs.Steps.Among.{AreSuperinterfaceMethods, AreHere, IsSpecificAmong, IsSingleAmong}
 use Rattle.jv_resolve.proofs.MembersLemmas.{declares_one, declared_here}
 use Rattle.jv_resolve.proofs.PlacesLemmas.{read_at}
 

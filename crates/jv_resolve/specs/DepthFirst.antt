@@ -9,12 +9,8 @@ abbrev pub direct_supers : Shape → List (List ℕ)
 direct_supers s = s.interfaces ++ option_to_list s.parent
 
 -- the class d is such a one as P says, or one above it is
-abbrev pub Leads : List Shape → (ℕ → Type 0) → ℕ → Type 0
-Leads w P d = (e : ℕ) × Sub w d e × P e
-
--- no class of these names leads to such a one
-abbrev pub NoneLeads : List Shape → (ℕ → Type 0) → List (List ℕ) → Type 0
-NoneLeads w P names = (k : ℕ) (name : List ℕ) (d : ℕ) → slice_get names k ≡ Some name → IsNamed w d name → ¬ Leads w P d
+abbrev pub LeadsUpTo : List Shape → (ℕ → Type 0) → ℕ → Type 0
+LeadsUpTo w P d = (e : ℕ) × Sub w d e × P e
 
 -- d is the class of the first of the names that leads to such a one
 pub record IsFirstLeading (w : List Shape) (P : ℕ → Type 0) (names : List (List ℕ)) (d : ℕ) : Type 0 where
@@ -22,8 +18,8 @@ pub record IsFirstLeading (w : List Shape) (P : ℕ → Type 0) (names : List (L
   pub name : List ℕ
   pub at_place : slice_get names place ≡ Some name
   pub named : IsNamed w d name
-  pub leads : Leads w P d
-  pub before : (k : ℕ) (other : List ℕ) (e : ℕ) → k < place → slice_get names k ≡ Some other → IsNamed w e other → ¬ Leads w P e
+  pub leads : LeadsUpTo w P d
+  pub before : (k : ℕ) (other : List ℕ) (e : ℕ) → k < place → slice_get names k ≡ Some other → IsNamed w e other → ¬ LeadsUpTo w P e
 
 -- d is the first of the direct supers of c that leads to such a one
 abbrev pub IsFirstWay : List Shape → (ℕ → Type 0) → ℕ → ℕ → Type 0

@@ -1,4 +1,3 @@
-pub mod Places
 pub mod Members
 pub mod Inheriting
 pub mod DepthFirst
@@ -8,7 +7,5 @@ pub mod Access
 pub mod Overriding
 pub mod Resolving
 pub mod Selecting
-pub mod Wanted
-pub mod Among
-pub mod Targets
 pub mod Refusals
+pub mod Steps

@@ -19,5 +19,5 @@ abbrev pub BeginsAt : List Shape → RefType → ℕ → Type 0
 BeginsAt w type c = IsNamed w c (unwrap_or (named_class type) object_name)
 
 -- the type is an interface of the world
-abbrev pub NamesInterface : List Shape → RefType → Type 0
-NamesInterface w type = (name : List ℕ) × (c : ℕ) × (named_class type ≡ Some name) × IsNamed w c name × IsInterfaceClass w c
+abbrev pub IsInterfaceType : List Shape → RefType → Type 0
+IsInterfaceType w type = (name : List ℕ) × (c : ℕ) × (named_class type ≡ Some name) × IsNamed w c name × IsInterfaceClass w c

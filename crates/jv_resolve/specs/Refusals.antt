@@ -7,7 +7,7 @@ use Rattle.jv_types.specs.declared.references.MethodRef.{MethodRef}
 use Rattle.jv_types.specs.declared.shapes.Shape.{Shape}
 use Rattle.jv_resolve.specs.declared.refusal.ResolveRefusal.{ResolveRefusal}
 use Rattle.jv_resolve.specs.declared.refusal.ResolveRefusal.TheVariants.{WrongKind, NotFound, NoAccess, Memory}
-use Rattle.jv_resolve.specs.References.{NamesInterface}
+use Rattle.jv_resolve.specs.References.{IsInterfaceType}
 use Rattle.jv_resolve.specs.Resolving.{ResolvesField, ResolvesMethod, ResolvesInterfaceMethod}
 use Rattle.jv_resolve.specs.Access.{IsFieldAccessible, IsMethodAccessible}
 
@@ -22,15 +22,15 @@ IsFieldUnresolved w r Memory = Unit {0}
 
 -- a method of a class: first the kind, then what is found
 abbrev pub IsMethodUnresolved : List Shape → MethodRef → ResolveRefusal → Type 0
-IsMethodUnresolved w r WrongKind = NamesInterface w r.class
-IsMethodUnresolved w r NotFound = ¬ NamesInterface w r.class × ((m : MethodId) → ¬ ResolvesMethod w r m)
+IsMethodUnresolved w r WrongKind = IsInterfaceType w r.class
+IsMethodUnresolved w r NotFound = ¬ IsInterfaceType w r.class × ((m : MethodId) → ¬ ResolvesMethod w r m)
 IsMethodUnresolved w r NoAccess = ⊥
 IsMethodUnresolved w r Memory = Unit {0}
 
 -- a method of an interface
 abbrev pub IsInterfaceMethodUnresolved : List Shape → MethodRef → ResolveRefusal → Type 0
-IsInterfaceMethodUnresolved w r WrongKind = ¬ NamesInterface w r.class
-IsInterfaceMethodUnresolved w r NotFound = NamesInterface w r.class × ((m : MethodId) → ¬ ResolvesInterfaceMethod w r m)
+IsInterfaceMethodUnresolved w r WrongKind = ¬ IsInterfaceType w r.class
+IsInterfaceMethodUnresolved w r NotFound = IsInterfaceType w r.class × ((m : MethodId) → ¬ ResolvesInterfaceMethod w r m)
 IsInterfaceMethodUnresolved w r NoAccess = ⊥
 IsInterfaceMethodUnresolved w r Memory = Unit {0}
 

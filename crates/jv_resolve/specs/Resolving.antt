@@ -12,7 +12,7 @@ use Rattle.jv_world.specs.Worlds.{IsNamed, object_name}
 use Rattle.jv_resolve.specs.Members.{IsPublic, IsStatic, IsInterfaceClass, IsMethod, init_name, DeclaresField, DeclaresMethod}
 use Rattle.jv_resolve.specs.Inheriting.{IsSuperinterfaceMethod, IsNearest, HasNone, IsSingleDefault, HasNoSingleDefault}
 use Rattle.jv_resolve.specs.DepthFirst.{IsFirst}
-use Rattle.jv_resolve.specs.References.{named_class, BeginsAt, NamesInterface}
+use Rattle.jv_resolve.specs.References.{named_class, BeginsAt, IsInterfaceType}
 
 -- ---- fields
 
@@ -76,7 +76,7 @@ IsInitKept w r m = r.name ≡ init_name → (name : List ℕ) × (named_class r.
 pub record ResolvesMethod (w : List Shape) (r : MethodRef) (m : MethodId) : Type 0 where
   pub start : ℕ
   pub begins : BeginsAt w r.class start
-  pub no_interface : ¬ NamesInterface w r.class
+  pub no_interface : ¬ IsInterfaceType w r.class
   pub found : ResolvesInClass w start r.name r.desc m
   pub init : IsInitKept w r m
 

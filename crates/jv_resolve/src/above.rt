@@ -1,7 +1,7 @@
 ghost use Rattle.std.specs.Prelude.{◌≡◌, ◌<◌, length, map, IfOk, IfSome, IfNone};
 ghost use Rattle.jv_types.specs.declared.ids.MethodId.{MethodId};
-ghost use Rattle.jv_resolve.specs.Among.{AreSuperinterfaceMethods};
-ghost use Rattle.jv_resolve.specs.DepthFirst.{IsFirst, Leads};
+ghost use Rattle.jv_resolve.specs.Steps.Among.{AreSuperinterfaceMethods};
+ghost use Rattle.jv_resolve.specs.DepthFirst.{IsFirst, LeadsUpTo};
 ghost use Rattle.jv_resolve.specs.Members.{DeclaresMethod};
 ghost use Rattle.jv_resolve.specs.Inheriting.{IsSingleDefault};
 ghost use Rattle.jv_resolve.specs.Resolving.{DeclaresFor, ResolvesAbove};
@@ -45,7 +45,7 @@ fn first_above(
 ) -> Result<Option<MethodId>, AllocError>
     requires { c.number < length world.now }
     ensures found { IfOk result (λ o. IfSome o (λ m. DeclaresMethod world.now name.now desc.now m × IsFirst world.now (DeclaresFor world.now c.number name.now desc.now) c.number m.class.number)) }
-    ensures none { IfOk result (λ o. IfNone o (¬ Leads world.now (DeclaresFor world.now c.number name.now desc.now) c.number)) }
+    ensures none { IfOk result (λ o. IfNone o (¬ LeadsUpTo world.now (DeclaresFor world.now c.number name.now desc.now) c.number)) }
 {
     let methods = superinterface_methods(alloc, world, c, name, desc)?;
     let targets = classes_of(alloc, methods.as_slice())?;

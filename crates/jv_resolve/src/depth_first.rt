@@ -1,7 +1,7 @@
 ghost use Rattle.std.specs.Prelude.{◌≡◌, ℕ, ◌<◌, ◌↔◌, length, IsTrue, IfSome, IfNone, Contains};
 ghost use Rattle.jv_world.specs.Worlds.{IsNamed, HasSuper};
-ghost use Rattle.jv_resolve.specs.DepthFirst.{Leads, IsFirstLeading, NoneLeads, IsFirstWay, IsFirst};
-ghost use Rattle.jv_resolve.specs.Targets.{IsTarget, AreClasses};
+ghost use Rattle.jv_resolve.specs.DepthFirst.{LeadsUpTo, IsFirstLeading, IsFirstWay, IsFirst};
+ghost use Rattle.jv_resolve.specs.Steps.Targets.{IsTarget, AreClasses, NoneLeads};
 
 use jv_types::{ClassId, Name};
 use jv_world::World;
@@ -22,7 +22,7 @@ fn is_target(targets: &[ClassId], c: ClassId) -> bool
 fn leads(world: &World, c: ClassId, targets: &[ClassId]) -> bool
     requires here { c.number < length world.now }
     requires targets_here { AreClasses world.now targets.now }
-    ensures { IsTrue result ↔ Leads world.now (IsTarget targets.now) c.number }
+    ensures { IsTrue result ↔ LeadsUpTo world.now (IsTarget targets.now) c.number }
 {
     for target in targets {
         if world.sub(c, *target) {
@@ -35,8 +35,8 @@ fn leads(world: &World, c: ClassId, targets: &[ClassId]) -> bool
 /// The class of this name, where it or one above it is among the targets.
 fn leading(world: &World, name: &Name, targets: &[ClassId]) -> Option<ClassId>
     requires { AreClasses world.now targets.now }
-    ensures found { IfSome result (λ d. IsNamed world.now d.number name.now × Leads world.now (IsTarget targets.now) d.number) }
-    ensures none { IfNone result ((d : ℕ) → IsNamed world.now d name.now → ¬ Leads world.now (IsTarget targets.now) d) }
+    ensures found { IfSome result (λ d. IsNamed world.now d.number name.now × LeadsUpTo world.now (IsTarget targets.now) d.number) }
+    ensures none { IfNone result ((d : ℕ) → IsNamed world.now d name.now → ¬ LeadsUpTo world.now (IsTarget targets.now) d) }
 {
     let Some(d) = world.class(name) else {
         return None;
@@ -67,7 +67,7 @@ fn first_way(world: &World, c: ClassId, targets: &[ClassId]) -> Option<ClassId>
     requires here { c.number < length world.now }
     requires targets_here { AreClasses world.now targets.now }
     ensures found { IfSome result (λ d. IsFirstWay world.now (IsTarget targets.now) c.number d.number) }
-    ensures none { IfNone result ((d : ℕ) → HasSuper world.now c.number d → ¬ Leads world.now (IsTarget targets.now) d) }
+    ensures none { IfNone result ((d : ℕ) → HasSuper world.now c.number d → ¬ LeadsUpTo world.now (IsTarget targets.now) d) }
 {
     let shape = world.shape(c);
     if let Some(d) = leading_of(world, shape.interfaces.as_slice(), targets) {
@@ -84,7 +84,7 @@ pub fn first_target(world: &World, c: ClassId, targets: &[ClassId]) -> Option<Cl
     requires here { c.number < length world.now }
     requires targets_here { AreClasses world.now targets.now }
     ensures found { IfSome result (λ d. IsFirst world.now (IsTarget targets.now) c.number d.number) }
-    ensures none { IfNone result (¬ Leads world.now (IsTarget targets.now) c.number) }
+    ensures none { IfNone result (¬ LeadsUpTo world.now (IsTarget targets.now) c.number) }
 {
     let mut class = c;
     let count = world.shapes().len();

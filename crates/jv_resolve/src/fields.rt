@@ -1,9 +1,9 @@
 ghost use Rattle.std.specs.Prelude.{◌≡◌, ℕ, ◌<◌, ◌↔◌, length, IsTrue, IfOk, IfErr, IfSome, IfNone};
 ghost use Rattle.jv_types.specs.declared.ids.FieldId.{FieldId};
 ghost use Rattle.jv_resolve.specs.Members.{DeclaresField};
-ghost use Rattle.jv_resolve.specs.DepthFirst.{IsFirst, Leads};
+ghost use Rattle.jv_resolve.specs.DepthFirst.{IsFirst, LeadsUpTo};
 ghost use Rattle.jv_resolve.specs.Resolving.{DeclaresFieldIn, ResolvesField};
-ghost use Rattle.jv_resolve.specs.Targets.{AreDeclaring};
+ghost use Rattle.jv_resolve.specs.Steps.Targets.{AreDeclaring};
 ghost use Rattle.jv_resolve.specs.Access.{IsFieldAccessible};
 ghost use Rattle.jv_resolve.specs.Refusals.{HasFieldCause, IsFieldUnresolved};
 
@@ -60,7 +60,7 @@ fn field_from(
 ) -> Result<Option<FieldId>, AllocError>
     requires { c.number < length world.now }
     ensures found { IfOk result (λ o. IfSome o (λ f. DeclaresField world.now name.now desc.now f × IsFirst world.now (DeclaresFieldIn world.now name.now desc.now) c.number f.class.number)) }
-    ensures none { IfOk result (λ o. IfNone o (¬ Leads world.now (DeclaresFieldIn world.now name.now desc.now) c.number)) }
+    ensures none { IfOk result (λ o. IfNone o (¬ LeadsUpTo world.now (DeclaresFieldIn world.now name.now desc.now) c.number)) }
 {
     let targets = declaring_classes(alloc, world, c, name, desc)?;
     let Some(d) = first_target(world, c, targets.as_slice()) else {

@@ -2,7 +2,7 @@ ghost use Rattle.std.specs.Prelude.{◌≡◌, ℕ, ◌<◌, ◌↔◌, length, 
 ghost use Rattle.jv_types.specs.declared.ids.MethodId.{MethodId};
 ghost use Rattle.jv_world.specs.Worlds.{IsNamed, IsWorld};
 ghost use Rattle.jv_resolve.specs.Members.{DeclaresMethod, init_name};
-ghost use Rattle.jv_resolve.specs.References.{BeginsAt, NamesInterface};
+ghost use Rattle.jv_resolve.specs.References.{BeginsAt, IsInterfaceType};
 ghost use Rattle.jv_resolve.specs.Resolving.{DeclaresIn, IsInitKept, ResolvesInClass, ResolvesInInterface, ResolvesMethod, ResolvesInterfaceMethod};
 ghost use Rattle.jv_resolve.specs.Access.{IsMethodAccessible};
 ghost use Rattle.jv_resolve.specs.Refusals.{HasMethodCause, HasInterfaceMethodCause, IsMethodUnresolved, IsInterfaceMethodUnresolved};

@@ -4,10 +4,10 @@ ghost use Rattle.jv_world.specs.Worlds.{IsWorld};
 ghost use Rattle.jv_resolve.specs.Members.{HasMethod, IsInheritable, DeclaresMethod};
 ghost use Rattle.jv_resolve.specs.Inheriting.{IsNearest, HasNone};
 ghost use Rattle.jv_resolve.specs.Selecting.{IsSpecial};
-ghost use Rattle.jv_resolve.specs.Wanted.{IsWanted, HasResolved};
+ghost use Rattle.jv_resolve.specs.Steps.Wanted.{IsWanted, HasResolved};
 
 use crate::flags::{is_inheritable, is_private, is_static};
-use crate::members::{declared_method, is_same, method_shape};
+use crate::members::{declared_method, method_shape};
 use crate::overriding::overrides;
 use jv_types::{ClassId, MethodDesc, MethodId, Name};
 use jv_world::World;
@@ -39,7 +39,7 @@ fn is_special(world: &World, m: MethodId, resolved: MethodId) -> bool
     ensures { IsTrue result ↔ IsSpecial world.now resolved m }
 {
     let flags = method_shape(world, m).flags;
-    !is_static(flags) && (!is_private(flags) || is_same(m, resolved))
+    !is_static(flags) && (!is_private(flags) || m == resolved)
 }
 
 /// Whether a method with the name and descriptor is wanted.

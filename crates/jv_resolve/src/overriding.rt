@@ -4,7 +4,7 @@ ghost use Rattle.jv_resolve.specs.Members.{IsPackagePrivate, HasMethod};
 ghost use Rattle.jv_resolve.specs.Overriding.{IsOpenTo, OverridesDirectly, HasMiddle, HasMiddleAbove, Overrides};
 
 use crate::flags::{is_inheritable, is_private, is_protected, is_public};
-use crate::members::{is_method_called, is_same, method_shape};
+use crate::members::{is_method_called, method_shape};
 use crate::packages::are_in_one_package;
 use jv_types::{Access, ClassId, MethodId};
 use jv_world::World;
@@ -97,7 +97,7 @@ pub fn overrides(world: &World, a: MethodId, b: MethodId) -> bool
     requires b_here { HasMethod world.now b }
     ensures { IsTrue result ↔ Overrides world.now a b }
 {
-    if is_same(a, b) {
+    if a == b {
         return true;
     }
     if overrides_directly(world, a, b) {

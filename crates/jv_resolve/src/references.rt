@@ -1,7 +1,7 @@
 ghost use Rattle.std.specs.Prelude.{◌≡◌, ℕ, ◌↔◌, codes, IsTrue, IfOk, IfSome, IfNone};
 ghost use Rattle.std.specs.Option.{option_copied};
 ghost use Rattle.jv_resolve.specs.Members.{init_name};
-ghost use Rattle.jv_resolve.specs.References.{named_class, IsArray, BeginsAt, NamesInterface};
+ghost use Rattle.jv_resolve.specs.References.{named_class, IsArray, BeginsAt, IsInterfaceType};
 
 use crate::class_methods::object_class;
 use crate::superinterfaces::is_interface_class;
@@ -29,7 +29,7 @@ pub fn is_array(type_of: &RefType) -> bool
 
 /// Whether the type is an interface of the world.
 pub fn names_interface(world: &World, type_of: &RefType) -> bool
-    ensures { IsTrue result ↔ NamesInterface world.now type_of.now }
+    ensures { IsTrue result ↔ IsInterfaceType world.now type_of.now }
 {
     let Some(name) = named_class(type_of) else {
         return false;

@@ -1,7 +1,7 @@
 ghost use Rattle.std.specs.Prelude.{◌≡◌, ◌<◌, length, IfOk, IfSome, IfNone};
 ghost use Rattle.jv_types.specs.declared.ids.MethodId.{MethodId};
 ghost use Rattle.jv_resolve.specs.Members.{HasMethod, IsConcrete};
-ghost use Rattle.jv_resolve.specs.Wanted.{IsWanted, HasResolved};
+ghost use Rattle.jv_resolve.specs.Steps.Wanted.{IsWanted, HasResolved};
 ghost use Rattle.jv_resolve.specs.Selecting.{SelectsBy, SelectsVirtual, SelectsInterface};
 
 use crate::above::default_above;

@@ -3,10 +3,10 @@ ghost use Rattle.jv_types.specs.declared.ids.MethodId.{MethodId};
 ghost use Rattle.jv_world.specs.Worlds.{ProperSub};
 ghost use Rattle.jv_resolve.specs.Members.{HasMethod, IsConcrete, IsInterfaceClass};
 ghost use Rattle.jv_resolve.specs.Inheriting.{IsInterfaceMethod, IsSuperinterfaceMethod};
-ghost use Rattle.jv_resolve.specs.Among.{AreSuperinterfaceMethods, AreHere, IsSpecificAmong, IsDefaultAmong, IsSingleAmong};
+ghost use Rattle.jv_resolve.specs.Steps.Among.{AreSuperinterfaceMethods, AreHere, IsSpecificAmong, IsDefaultAmong, IsSingleAmong};
 
 use crate::flags::{is_abstract, is_interface};
-use crate::members::{is_same, method_shape};
+use crate::members::method_shape;
 use crate::nearest::{Wanted, wanted_method};
 use jv_types::{ClassId, MethodDesc, MethodId, Name};
 use jv_world::World;
@@ -115,7 +115,7 @@ fn agrees(world: &World, methods: &[MethodId], m: MethodId, other: MethodId) -> 
     requires here { HasMethod world.now other }
     ensures { IsTrue result ↔ (IsDefaultAmong world.now methods.now other → other ≡ m) }
 {
-    if is_same(other, m) {
+    if other == m {
         return true;
     }
     !is_default(world, methods, other)

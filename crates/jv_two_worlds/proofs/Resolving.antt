@@ -14,7 +14,7 @@ use Rattle.jv_resolve.specs.declared.refusal.ResolveRefusal.{ResolveRefusal}
 use Rattle.jv_resolve.specs.declared.refusal.ResolveRefusal.TheVariants.{WrongKind, NotFound, NoAccess, Memory}
 use Rattle.jv_resolve.specs.Members.{DeclaresField, DeclaresMethod, IsInterfaceClass}
 use Rattle.jv_resolve.specs.DepthFirst.{IsFirst}
-use Rattle.jv_resolve.specs.References.{named_class, BeginsAt, NamesInterface}
+use Rattle.jv_resolve.specs.References.{named_class, BeginsAt, IsInterfaceType}
 use Rattle.jv_resolve.specs.Refusals.{IsFieldUnresolved, IsInterfaceMethodUnresolved, IsMethodUnresolved}
 use Rattle.jv_resolve.specs.Resolving.{DeclaresFieldIn, DeclaresFor, DeclaresIn, IsInitKept, IsObjectMethod, IsPublicInstance, ResolvesAbove, ResolvesField, ResolvesInClass, ResolvesInInterface, ResolvesInterfaceMethod, ResolvesMethod}
 use Rattle.jv_resolve.proofs.Hierarchy.{named_here}
@@ -145,7 +145,7 @@ module _ {w v : List Shape} {to : ℕ → ℕ} (inside : StandsIn w v to) where
 
   -- ---- by a reference
 
-  pub names_interface : (type : RefType) (c : ℕ) → BeginsAt w type c → NamesInterface w type ↔ NamesInterface v type
+  pub names_interface : (type : RefType) (c : ℕ) → BeginsAt w type c → IsInterfaceType w type ↔ IsInterfaceType v type
   names_interface type c begins = (
     λ p. (p.0, to p.1, p.2, named_into inside p.1 p.0 p.3, interface_into inside p.1 p.4),
     λ q.

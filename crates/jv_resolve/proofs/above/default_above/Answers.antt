@@ -2,7 +2,7 @@
 use Rattle.std.proofs.Common.{sym, subst}
 use Rattle.jv_types.specs.declared.ids.MethodId.{MethodId}
 use Rattle.jv_resolve.specs.Inheriting.{IsSingleDefault}
-use Rattle.jv_resolve.specs.Among.{AreSuperinterfaceMethods, IsSingleAmong}
+use Rattle.jv_resolve.specs.Steps.Among.{AreSuperinterfaceMethods, IsSingleAmong}
 use Rattle.jv_resolve.proofs.AboveLemmas.{no_default}
 use Rattle.jv_resolve.proofs.SuperinterfaceLemmas.{are_here, single_from_among}
 use Rattle.jv_resolve.proofs.Tests.{some_weaker, none_weaker}

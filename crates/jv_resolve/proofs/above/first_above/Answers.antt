@@ -1,10 +1,10 @@
 -- The targets are the classes of the superinterface methods.
 use Rattle.std.proofs.Common.{◌∙◌, ℕ, sym, subst, List}
 use Rattle.jv_types.specs.declared.ids.ClassId.{ClassId}
-use Rattle.jv_resolve.specs.Among.{AreSuperinterfaceMethods}
+use Rattle.jv_resolve.specs.Steps.Among.{AreSuperinterfaceMethods}
 use Rattle.jv_resolve.specs.DepthFirst.{IsFirst}
 use Rattle.jv_resolve.specs.Resolving.{DeclaresFor}
-use Rattle.jv_resolve.specs.Targets.{IsTarget, AreClasses}
+use Rattle.jv_resolve.specs.Steps.Targets.{IsTarget, AreClasses}
 use Rattle.jv_resolve.proofs.AboveLemmas.{targets_here, target_declares, declares_target, leads_same, first_same, first_holds}
 use Rattle.jv_resolve.proofs.above.first_above.Goals as goal
 

@@ -1,5 +1,5 @@
 -- The class that was reached is a target, or one goes on from it, or nothing leads to a target.
-use Rattle.jv_resolve.specs.Targets.{IsTarget}
+use Rattle.jv_resolve.specs.Steps.Targets.{IsTarget}
 use Rattle.jv_resolve.proofs.Going.{going_more, going_found, going_end}
 use Rattle.jv_resolve.proofs.Tests.{denied}
 use Rattle.jv_resolve.proofs.depth_first.first_target.Goals as goal

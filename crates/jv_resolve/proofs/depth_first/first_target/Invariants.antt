@@ -1,5 +1,5 @@
 -- So many links were gone up.
-use Rattle.jv_resolve.specs.Targets.{IsTarget}
+use Rattle.jv_resolve.specs.Steps.Targets.{IsTarget}
 use Rattle.jv_resolve.proofs.Going.{IsGoing}
 use Rattle.jv_resolve.proofs.depth_first.first_target.Given as goal
 

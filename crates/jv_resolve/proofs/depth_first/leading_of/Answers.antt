@@ -1,8 +1,8 @@
 -- Each name is looked at.
 use Rattle.std.proofs.Common.{ℕ, List}
 use Rattle.jv_world.specs.Worlds.{IsNamed}
-use Rattle.jv_resolve.specs.DepthFirst.{Leads}
-use Rattle.jv_resolve.specs.Targets.{IsTarget}
+use Rattle.jv_resolve.specs.DepthFirst.{LeadsUpTo}
+use Rattle.jv_resolve.specs.Steps.Targets.{IsTarget}
 use Rattle.jv_resolve.proofs.PlacesLemmas.{read_at, each_more, within_all}
 use Rattle.jv_resolve.proofs.depth_first.leading_of.Goals as goal
 
@@ -18,7 +18,7 @@ returns-in-Some-clause-found c = record {
 
 pub loop-name-preserved : goal.loop-name-preserved
 loop-name-preserved c = λ k other e lt got.
-    each_more (λ (name : List ℕ). (e : ℕ) → IsNamed c.args.world.now e name → Leads c.args.world.now (IsTarget c.args.targets.now) e → ⊥) c.args.names.now c.loop-name.name-index c.name-item.result
+    each_more (λ (name : List ℕ). (e : ℕ) → IsNamed c.args.world.now e name → LeadsUpTo c.args.world.now (IsTarget c.args.targets.now) e → ⊥) c.args.names.now c.loop-name.name-index c.name-item.result
     (read_at c.args.names.now c.loop-name.name-index c.name-item.result c.loop-name-test.true c.name-item.is) c.in_default.ensures.none
     (λ k other below got e. c.loop-name.invariant k other e below got) k other lt got e
 

@@ -3,7 +3,7 @@ use Rattle.std.proofs.Common.{◌+◌, ◌∙◌, sym, ap, subst, get_or, List, 
 use Rattle.std.proofs.lemmas.List.Elements.{Contains-get_or}
 use Rattle.std.proofs.lemmas.Option.{slice_get-get_or}
 use Rattle.jv_types.specs.declared.ids.ClassId.{ClassId}
-use Rattle.jv_resolve.specs.Targets.{AreDeclaring}
+use Rattle.jv_resolve.specs.Steps.Targets.{AreDeclaring}
 use Rattle.jv_resolve.proofs.Hierarchy.{proper_here}
 use Rattle.jv_resolve.proofs.MembersLemmas.{no_class}
 use Rattle.jv_resolve.proofs.FieldLemmas.{AreDeclaringSoFar, fields_none, fields_more, fields_own, fields_end}

@@ -3,7 +3,7 @@ use Rattle.std.proofs.Common.{ℕ, sym, subst}
 use Rattle.jv_types.specs.declared.ids.ClassId.{ClassId}
 use Rattle.jv_resolve.specs.DepthFirst.{IsFirst}
 use Rattle.jv_resolve.specs.Resolving.{DeclaresFieldIn}
-use Rattle.jv_resolve.specs.Targets.{IsTarget, AreDeclaring}
+use Rattle.jv_resolve.specs.Steps.Targets.{IsTarget, AreDeclaring}
 use Rattle.jv_resolve.proofs.AboveLemmas.{first_holds}
 use Rattle.jv_resolve.proofs.FieldLemmas.{fields_here, field_target, target_field, field_leads, first_above_same}
 use Rattle.jv_resolve.proofs.fields.field_from.Goals as goal

@@ -8,7 +8,7 @@ use Rattle.jv_resolve.specs.References.{named_class, BeginsAt}
 use Rattle.jv_resolve.specs.Resolving.{IsInitKept, ResolvesInInterface}
 use Rattle.jv_resolve.proofs.Hierarchy.{named_here}
 use Rattle.jv_resolve.proofs.MethodLemmas.{nothing_at_interface, nothing_from_interface, resolves_interface}
-use Rattle.jv_resolve.proofs.Tests.{none_at, some_at, denied}
+use Rattle.jv_resolve.proofs.Tests.{none_at, some_at}
 use Rattle.jv_resolve.proofs.methods.resolve_interface_method.Goals as goal
 
 pub returns-in_default-clause-refused : goal.returns-in_default-clause-refused

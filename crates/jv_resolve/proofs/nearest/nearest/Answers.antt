@@ -1,5 +1,5 @@
 -- The class that was reached declares no wanted method.
-use Rattle.jv_resolve.specs.Wanted.{IsWanted}
+use Rattle.jv_resolve.specs.Steps.Wanted.{IsWanted}
 use Rattle.jv_resolve.proofs.Climbing.{climb_more, climb_end}
 use Rattle.jv_resolve.proofs.nearest.nearest.Goals as goal
 

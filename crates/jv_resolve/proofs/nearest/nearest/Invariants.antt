@@ -1,5 +1,5 @@
 -- So many links were climbed.
-use Rattle.jv_resolve.specs.Wanted.{IsWanted}
+use Rattle.jv_resolve.specs.Steps.Wanted.{IsWanted}
 use Rattle.jv_resolve.proofs.Climbing.{IsClimbing}
 use Rattle.jv_resolve.proofs.nearest.nearest.Given as goal
 

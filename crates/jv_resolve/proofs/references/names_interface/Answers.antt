@@ -1,12 +1,12 @@
 -- One class has the name.
-use Rattle.jv_resolve.specs.References.{NamesInterface}
+use Rattle.jv_resolve.specs.References.{IsInterfaceType}
 use Rattle.jv_resolve.proofs.ReferenceLemmas.{names_none, names_one}
 use Rattle.jv_resolve.proofs.Tests.{never}
 use Rattle.std.proofs.Common.{sym}
 use Rattle.jv_resolve.proofs.references.names_interface.Goals as goal
 
 pub returns-in-None : goal.returns-in-None
-returns-in-None c = never (NamesInterface c.args.world.now c.args.type_of.now) (names_none c.args.world.now c.args.type_of.now c.in-Some.name.now c.in-Some.ensures c.in-None.ensures.none)
+returns-in-None c = never (IsInterfaceType c.args.world.now c.args.type_of.now) (names_none c.args.world.now c.args.type_of.now c.in-Some.name.now c.in-Some.ensures c.in-None.ensures.none)
 
 pub returns-in-Some-class : goal.returns-in-Some-class
 returns-in-Some-class c = (

@@ -2,7 +2,7 @@
 use Rattle.jv_types.specs.declared.ids.MethodId.{MethodId}
 use Rattle.jv_resolve.specs.Members.{IsConcrete}
 use Rattle.jv_resolve.specs.Inheriting.{IsSingleDefault}
-use Rattle.jv_resolve.specs.Wanted.{IsWanted}
+use Rattle.jv_resolve.specs.Steps.Wanted.{IsWanted}
 use Rattle.jv_resolve.specs.Selecting.{SelectsBy}
 use Rattle.jv_resolve.proofs.SelectionLemmas.{abstract_nearest, nothing_selected}
 use Rattle.jv_resolve.proofs.Tests.{none_weaker, ok_none}

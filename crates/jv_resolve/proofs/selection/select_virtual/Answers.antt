@@ -1,7 +1,7 @@
 -- The shape is that of the method.
 use Rattle.jv_types.specs.declared.ids.MethodId.{MethodId}
 use Rattle.jv_resolve.specs.declared.nearest.Wanted.TheVariants.{Overriding}
-use Rattle.jv_resolve.specs.Wanted.{IsWanted}
+use Rattle.jv_resolve.specs.Steps.Wanted.{IsWanted}
 use Rattle.jv_resolve.specs.Selecting.{SelectsBy, SelectsVirtual}
 use Rattle.jv_resolve.proofs.SelectionLemmas.{virtual_at}
 use Rattle.jv_resolve.proofs.Tests.{ok_none}

@@ -1,6 +1,6 @@
 -- Each of the methods is looked at.
 use Rattle.std.proofs.lemmas.List.Elements.{Contains-get_or}
-use Rattle.jv_resolve.specs.Among.{IsDefaultAmong}
+use Rattle.jv_resolve.specs.Steps.Among.{IsDefaultAmong}
 use Rattle.jv_resolve.proofs.MembersLemmas.{no_method}
 use Rattle.jv_resolve.proofs.PlacesLemmas.{none_next, none_among}
 use Rattle.jv_resolve.proofs.Tests.{denied}

@@ -2,7 +2,7 @@
 use Rattle.std.proofs.Common.{◌≡◌, get_or}
 use Rattle.std.proofs.lemmas.List.Elements.{Contains-get_or}
 use Rattle.jv_types.specs.declared.ids.MethodId.{MethodId}
-use Rattle.jv_resolve.specs.Among.{IsDefaultAmong}
+use Rattle.jv_resolve.specs.Steps.Among.{IsDefaultAmong}
 use Rattle.std.specs.Prelude.{Contains}
 use Rattle.jv_resolve.proofs.MembersLemmas.{no_method}
 use Rattle.jv_resolve.proofs.PlacesLemmas.{each_next, each_among}

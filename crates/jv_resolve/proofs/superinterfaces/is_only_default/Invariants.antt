@@ -2,7 +2,7 @@
 use Rattle.std.proofs.Common.{◌≡◌, ℕ, ◌<◌, Some}
 use Rattle.std.specs.List.{slice_get}
 use Rattle.jv_types.specs.declared.ids.MethodId.{MethodId}
-use Rattle.jv_resolve.specs.Among.{IsDefaultAmong}
+use Rattle.jv_resolve.specs.Steps.Among.{IsDefaultAmong}
 use Rattle.jv_resolve.proofs.superinterfaces.is_only_default.Given as goal
 
 abbrev pub invariant-loop-other : goal.invariant-loop-other

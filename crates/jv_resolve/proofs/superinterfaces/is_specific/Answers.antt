@@ -3,7 +3,7 @@ use Rattle.std.proofs.Common.{get_or}
 use Rattle.std.proofs.lemmas.List.Elements.{Contains-get_or}
 use Rattle.jv_types.specs.declared.ids.MethodId.{MethodId}
 use Rattle.jv_world.specs.Worlds.{ProperSub}
-use Rattle.jv_resolve.specs.Among.{IsSpecificAmong}
+use Rattle.jv_resolve.specs.Steps.Among.{IsSpecificAmong}
 use Rattle.jv_resolve.proofs.MembersLemmas.{class_here, no_method}
 use Rattle.jv_resolve.proofs.PlacesLemmas.{none_next, none_among}
 use Rattle.jv_resolve.proofs.Tests.{denied, never, yes}

@@ -1,10 +1,16 @@
 -- Classes that a search depth first looks for, as a list of them.
-use Rattle.std.specs.Prelude.{ℕ, ◌<◌, List, length, Contains}
+use Rattle.std.specs.Prelude.{◌≡◌, ℕ, ◌<◌, List, Some, length, Contains}
+use Rattle.std.specs.List.{slice_get}
 use Rattle.jv_types.specs.declared.desc.Desc.{Desc}
 use Rattle.jv_types.specs.declared.ids.ClassId.{ClassId}
 use Rattle.jv_types.specs.declared.shapes.Shape.{Shape}
-use Rattle.jv_world.specs.Worlds.{Sub}
+use Rattle.jv_world.specs.Worlds.{IsNamed, Sub}
+use Rattle.jv_resolve.specs.DepthFirst.{LeadsUpTo}
 use Rattle.jv_resolve.specs.Resolving.{DeclaresFieldIn}
+
+-- no class of these names leads to such a one
+abbrev pub NoneLeads : List Shape → (ℕ → Type 0) → List (List ℕ) → Type 0
+NoneLeads w P names = (k : ℕ) (name : List ℕ) (d : ℕ) → slice_get names k ≡ Some name → IsNamed w d name → ¬ LeadsUpTo w P d
 
 -- the class of this number is in the list
 abbrev pub IsTarget : List ClassId → ℕ → Type 0

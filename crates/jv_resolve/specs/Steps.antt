@@ -1,0 +1,4 @@
+-- What only private functions say.
+pub mod Among
+pub mod Targets
+pub mod Wanted
