@@ -1,9 +1,8 @@
--- Steps of a search for the first place, and of a comparison place by place.
-use Rattle.std.proofs.Common.{◌≡◌, ℕ, ◌+◌, ◌<◌, ◌≤◌, List, [], ◌∷◌, ◌++◌, Some, length, get_or, take, subst, sym, ◌∙◌, ap, arith, inl, inr, refl}
+-- Steps of a search for the first place.
+use Rattle.std.proofs.Common.{◌≡◌, ℕ, ◌+◌, ◌<◌, ◌≤◌, List, [], ◌∷◌, ◌++◌, Some, length, get_or, subst, sym, ◌∙◌, ap, arith, inl, inr, refl}
 use Rattle.std.specs.List.{slice_get, Contains}
 use Rattle.std.proofs.lemmas.Option.{slice_get_read, slice_get_within, slice_get-get_or, get_or_from_slice_get}
 use Rattle.std.proofs.lemmas.Bool.{cases_lt}
-use Rattle.std.proofs.lemmas.List.{take_more}
 use Rattle.jv_world.specs.MemberPlaces.{NoneBelow, NoneIn}
 
 -- the element of which the loop speaks
@@ -25,15 +24,6 @@ pub none_all : {X : Type 0} (P : X → Type 0) (xs : List X) (i : ℕ) → lengt
 none_all P xs i past before k y got holds =
     let within : k < length xs = slice_get_within xs k y got in
     before k y (omega arith) got holds
-
-pub same_more : {X : Type 0} (xs ys : List X) (i : ℕ) (x y : X) → i < length xs → i < length ys → x ≡ get_or xs i x → y ≡ get_or ys i y → x ≡ y
-    → take i xs ≡ take i ys → take (i + 1) xs ≡ take (i + 1) ys
-same_more xs ys i x y lx ly ex ey e before =
-    let p = take_more xs i x lx in
-    let q = take_more ys i y ly in
-    let front = ap (λ z. z ++ get_or xs i x ∷ []) before in
-    let ends : get_or xs i x ≡ get_or ys i y = sym ex ∙ e ∙ ey in
-    p ∙ front ∙ ap (λ z. take i ys ++ z ∷ []) ends ∙ sym q
 
 -- an element of a list of which no place passed
 pub none_among : {X : Type 0} (P : X → Type 0) (xs : List X) (i : ℕ) (x : X) → length xs ≤ i → NoneBelow P xs i → Contains xs x → P x → ⊥
