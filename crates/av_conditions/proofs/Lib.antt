@@ -2,5 +2,5 @@ mod Answering
 mod Entering
 mod PlainMethods
 mod RightKinds
-mod Standing
+pub mod Standing
 mod Typing

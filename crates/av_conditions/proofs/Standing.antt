@@ -9,22 +9,22 @@ use Rattle.jv_types.specs.declared.shapes.Shape.{Shape}
 use Rattle.jv_types.proofs.Starts.{starts_rise, at_offset-at, start_place}
 use Rattle.av_conditions.specs.RightReferences.{HasRightReferences, IsFirstWrong, IsRightInsn}
 
--- the instructions at the first places are right
-pub record AreRightBefore (w : List Shape) (insns : List (ℕ × Insn)) (n : ℕ) : Type 0 where
-  pub each : (k : ℕ) (row : ℕ × Insn) → k < n → k < length insns → row ≡ get_or insns k row → IsRightInsn w row.1
+-- this holds of the instructions at the first places
+pub record HoldsBefore (P : ℕ × Insn → Type 0) (insns : List (ℕ × Insn)) (n : ℕ) : Type 0 where
+  pub each : (k : ℕ) (row : ℕ × Insn) → k < n → k < length insns → row ≡ get_or insns k row → P row
 
-pub right_none : (w : List Shape) (insns : List (ℕ × Insn)) → AreRightBefore w insns 0
-right_none w insns = record { each = λ k row lt within is. absurd (omega arith) }
+pub holds_none : (P : ℕ × Insn → Type 0) (insns : List (ℕ × Insn)) → HoldsBefore P insns 0
+holds_none P insns = record { each = λ k row lt within is. absurd (omega arith) }
 
-pub right_more : (w : List Shape) (insns : List (ℕ × Insn)) (n : ℕ) (row : ℕ × Insn) → n < length insns → row ≡ get_or insns n row → IsRightInsn w row.1 → AreRightBefore w insns n
-    → AreRightBefore w insns (n + 1)
-right_more w insns n row here is right before = record {
+pub holds_more : (P : ℕ × Insn → Type 0) (insns : List (ℕ × Insn)) (n : ℕ) (row : ℕ × Insn) → n < length insns → row ≡ get_or insns n row → P row → HoldsBefore P insns n
+    → HoldsBefore P insns (n + 1)
+holds_more P insns n row here is holds before = record {
   each = λ k other lt within at. elim (cases_lt k n) [
     | inl l ↦ before.each k other l within at
     | inr g ↦
         let same : k ≡ n = omega arith in
         let one : other ≡ row = at ∙ ap (λ (j : ℕ). get_or insns j other) same ∙ get_or_default insns n other row here ∙ sym is in
-        subst (λ (x : ℕ × Insn). IsRightInsn w x.1) (sym one) right
+        subst P (sym one) holds
   ];
 }
 
@@ -48,21 +48,25 @@ placed insns pc insn rises at =
     let both : Some row.1 ≡ Some insn = sym found ∙ at in
     record { place = stands.place; within = stands.within; row = row; is = sym own; starts = begins; has = cc }
 
--- all instructions are right
-pub right_all : (w : List Shape) (insns : List (ℕ × Insn)) (n : ℕ) → IsTrue (rises_from 0 insns) → length insns ≤ n → AreRightBefore w insns n
-    → (pc : ℕ) (insn : Insn) → at_offset pc insns ≡ Some insn → IsRightInsn w insn
-right_all w insns n rises past before pc insn at =
+-- it holds of what stands at an offset
+at_its_offset : (P : ℕ × Insn → Type 0) (pc : ℕ) (insn : Insn) (row : ℕ × Insn) → row.0 ≡ pc → row.1 ≡ insn → P row → P (pc, insn)
+at_its_offset P pc insn row starts has holds = subst (λ (i : Insn). P (pc, i)) has (subst (λ (p : ℕ). P (p, row.1)) starts holds)
+
+-- it holds of all instructions
+pub holds_of_all : (P : ℕ × Insn → Type 0) (insns : List (ℕ × Insn)) (n : ℕ) → IsTrue (rises_from 0 insns) → length insns ≤ n → HoldsBefore P insns n
+    → (pc : ℕ) (insn : Insn) → at_offset pc insns ≡ Some insn → P (pc, insn)
+holds_of_all P insns n rises past before pc insn at =
     let p = placed insns pc insn rises at in
     let lt : p.place < n = omega (arith, p.within) in
-    subst (IsRightInsn w) p.has (before.each p.place p.row lt p.within p.is)
+    at_its_offset P pc insn p.row p.starts p.has (before.each p.place p.row lt p.within p.is)
 
--- those before the one at a place are
-pub right_earlier : (w : List Shape) (insns : List (ℕ × Insn)) (n : ℕ) (row : ℕ × Insn) → IsTrue (rises_from 0 insns) → n < length insns → row ≡ get_or insns n row → AreRightBefore w insns n
-    → (start : ℕ) (other : Insn) → start < row.0 → at_offset start insns ≡ Some other → IsRightInsn w other
-right_earlier w insns n row rises here is before start other lt at =
+-- it holds of those before the one at a place
+pub holds_of_earlier : (P : ℕ × Insn → Type 0) (insns : List (ℕ × Insn)) (n : ℕ) (row : ℕ × Insn) → IsTrue (rises_from 0 insns) → n < length insns → row ≡ get_or insns n row
+    → HoldsBefore P insns n → (start : ℕ) (other : Insn) → start < row.0 → at_offset start insns ≡ Some other → P (start, other)
+holds_of_earlier P insns n row rises here is before start other lt at =
     let p = placed insns start other rises at in
     elim (cases_lt p.place n) [
-      | inl l ↦ subst (IsRightInsn w) p.has (before.each p.place p.row l p.within p.is)
+      | inl l ↦ at_its_offset P start other p.row p.starts p.has (before.each p.place p.row l p.within p.is)
       | inr g ↦
           let low : n ≤ p.place = omega arith in
           let rise = starts_rise 0 insns rises n p.place row low p.within in
@@ -79,11 +83,16 @@ stands_at insns n row rises here is =
 
 -- ---- a code
 
-rises_of : (body : Body) (insns : List (ℕ × Insn)) → insns ≡ body.insns → IsTrue (rises_from 0 insns)
+-- the instructions of a code rise
+pub rises_of : (body : Body) (insns : List (ℕ × Insn)) → insns ≡ body.insns → IsTrue (rises_from 0 insns)
 rises_of body insns e = subst (λ (l : List (ℕ × Insn)). IsTrue (rises_from 0 l)) (sym e) body.rising
 
+-- the instruction of a row is right
+abbrev pub IsRightRow : List Shape → ℕ × Insn → Type 0
+IsRightRow w row = IsRightInsn w row.1
+
 pub first_is : (w : List Shape) (body : Body) (insns : List (ℕ × Insn)) (n : ℕ) (row : ℕ × Insn) (b : Bool) → insns ≡ body.insns → n < length insns → row ≡ get_or insns n row
-    → (IsRightInsn w row.1 → IsTrue b) → b ≡ false → AreRightBefore w insns n → IsFirstWrong w body row.0
+    → (IsRightInsn w row.1 → IsTrue b) → b ≡ false → HoldsBefore (IsRightRow w) insns n → IsFirstWrong w body row.0
 first_is w body insns n row b e here is says refused before =
     let rises = rises_of body insns e in
     record {
@@ -91,10 +100,10 @@ first_is w body insns n row b e here is says refused before =
       stands = subst (λ (l : List (ℕ × Insn)). at_offset row.0 l ≡ Some row.1) e (stands_at insns n row rises here is);
       wrong = λ right. let t : b ≡ true = says right in let clash : false ≡ true = sym refused ∙ t in absurd cc;
       before = λ start other lt at.
-          right_earlier w insns n row rises here is before start other lt (subst (λ (l : List (ℕ × Insn)). at_offset start l ≡ Some other) (sym e) at);
+          holds_of_earlier (IsRightRow w) insns n row rises here is before start other lt (subst (λ (l : List (ℕ × Insn)). at_offset start l ≡ Some other) (sym e) at);
     }
 
-pub all_are : (w : List Shape) (body : Body) (insns : List (ℕ × Insn)) (n : ℕ) → insns ≡ body.insns → length insns ≤ n → AreRightBefore w insns n → HasRightReferences w body
+pub all_are : (w : List Shape) (body : Body) (insns : List (ℕ × Insn)) (n : ℕ) → insns ≡ body.insns → length insns ≤ n → HoldsBefore (IsRightRow w) insns n → HasRightReferences w body
 all_are w body insns n e past before = record {
-  each = λ pc insn at. right_all w insns n (rises_of body insns e) past before pc insn (subst (λ (l : List (ℕ × Insn)). at_offset pc l ≡ Some insn) (sym e) at);
+  each = λ pc insn at. holds_of_all (IsRightRow w) insns n (rises_of body insns e) past before pc insn (subst (λ (l : List (ℕ × Insn)). at_offset pc l ≡ Some insn) (sym e) at);
 }
