@@ -5,18 +5,18 @@ use Rattle.jv_types.specs.declared.ids.FieldId.{FieldId}
 use Rattle.jv_types.specs.declared.ids.MethodId.{MethodId}
 use Rattle.jv_types.specs.declared.references.MethodRef.{MethodRef}
 use Rattle.jv_types.specs.declared.shapes.Shape.{Shape}
-use Rattle.jv_resolve.specs.References.{NamesInterface}
+use Rattle.jv_resolve.specs.References.{IsInterfaceType}
 use Rattle.jv_resolve.specs.Resolving.{ResolvesMethod, ResolvesInterfaceMethod}
 
 pub never : (P : Type 0) → (P → ⊥) → IsTrue false ↔ P
 never P fails = (λ e. let t : false ≡ true = e in absurd cc, λ p. absurd (fails p))
 
 -- a reference that names an interface is to no method of a class
-pub no_class_method : (w : List Shape) (r : MethodRef) → NamesInterface w r.class → (m : MethodId) → ResolvesMethod w r m → ⊥
+pub no_class_method : (w : List Shape) (r : MethodRef) → IsInterfaceType w r.class → (m : MethodId) → ResolvesMethod w r m → ⊥
 no_class_method w r names m p = p.no_interface names
 
 -- a reference that names no interface is to no method of one
-pub no_interface_method : (w : List Shape) (r : MethodRef) → (NamesInterface w r.class → ⊥) → (m : MethodId) → ResolvesInterfaceMethod w r m → ⊥
+pub no_interface_method : (w : List Shape) (r : MethodRef) → (IsInterfaceType w r.class → ⊥) → (m : MethodId) → ResolvesInterfaceMethod w r m → ⊥
 no_interface_method w r other m p = other (p.name, p.start, p.names, p.begins, p.interface)
 
 -- both or neither
