@@ -1,3 +1,12 @@
 pub mod OneFrame
 pub mod Rows
 pub mod Forced
+pub mod FormedWords
+pub mod CellSteps
+pub mod FormedFrames
+pub mod KindsOfWords
+pub mod KindsLeft
+pub mod KindsStored
+pub mod KindsSaid
+pub mod Returns
+pub mod KindSafety

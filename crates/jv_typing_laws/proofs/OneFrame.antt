@@ -72,7 +72,7 @@ one_replaced_by old new other fresh xs ws ys zs e f g h k =
 
 -- ---- constructors
 
-abbrev is_uninit : VType → Bool
+abbrev pub is_uninit : VType → Bool
 is_uninit types.UninitThis = true
 is_uninit (types.Uninit pc) = true
 is_uninit types.Top = false
@@ -126,7 +126,7 @@ uninit_lowest w top rest (types.Class name) u h = absurd cc
 uninit_lowest w top rest (types.PrimArray prim) u h = absurd cc
 uninit_lowest w top rest (types.Array' shape items) u h = absurd cc
 
-initialised_uninit : (w : List Shape) (site : Site) (class : RefType) (before after : VType) → IsInitialised w site class before after → is_uninit before ≡ true
+pub initialised_uninit : (w : List Shape) (site : Site) (class : RefType) (before after : VType) → IsInitialised w site class before after → is_uninit before ≡ true
 initialised_uninit w site class before after (this _ _ current name b t c p a) = ap is_uninit b
 initialised_uninit w site class before after (made _ _ pc insn name b i o g c a) = ap is_uninit b
 
