@@ -1,0 +1,11 @@
+pub mod Transits
+pub mod LowestWords
+pub mod Named
+pub mod ArrayKinds
+pub mod Stores
+pub mod Returning
+pub mod Receiving
+pub mod Making
+pub mod Calling
+pub mod Leading
+pub mod Initialising

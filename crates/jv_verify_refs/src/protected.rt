@@ -1,0 +1,138 @@
+ghost use Rattle.std.specs.Prelude.{◌≡◌, ◌<◌, ◌↔◌, List, IsTrue, IfOk, IfSome, IfNone, length};
+ghost use Rattle.jv_types.specs.declared.frames.VType.{Class};
+ghost use Rattle.jv_types.specs.declared.shapes.FieldShape.{FieldShape as FieldValue};
+ghost use Rattle.jv_types.specs.declared.shapes.MethodShape.{MethodShape as MethodValue};
+ghost use Rattle.jv_types.specs.declared.shapes.Shape.{Shape};
+ghost use Rattle.jv_types.specs.declared.ids.MethodId.{MethodId};
+
+ghost use Rattle.jv_world.specs.Worlds.{IsWorld};
+ghost use Rattle.jv_resolve.specs.Members.{HasField, HasMethod, IsField, IsMethod};
+ghost use Rattle.jv_resolve.specs.Resolving.{ResolvesMethod};
+ghost use Rattle.jv_typing.specs.References.{IsThisClass, IsRestricted, PassesProtected, PassesForField, PassesForMethod};
+ghost use Rattle.jv_verify_refs.specs.Parts.{site_of};
+
+use crate::step::Step;
+use crate::types::is_array;
+use av_conditions::resolved_field;
+use jv_frames::assignable;
+use jv_resolve::{
+    ResolveRefusal, are_in_one_package, field_shape, is_protected, method_shape, resolve_method,
+};
+use jv_types::{Access, ClassId, Copied, FieldId, FieldRef, MethodId, MethodRef, VType};
+use jv_world::World;
+use std::alloc::{AllocError, Global};
+
+/// The type of the current class.
+pub fn this_type(alloc: Global, step: &Step) -> Result<VType, AllocError>
+    requires { step.now.from.number < length step.now.world.now }
+    ensures { IfOk result (λ made. (class : Shape) × IsThisClass step.now.world.now (site_of step.now) class × (made ≡ Class class.name)) }
+{
+    Ok(VType::Class(step.world.shape(step.from).name.copy()?))
+}
+
+/// Whether the receiver of a member of this class with these flags is restricted (JVMS 4.10.1.8).
+fn is_restricted(step: &Step, declarer: ClassId, flags: Access) -> bool
+    requires from_here { step.now.from.number < length step.now.world.now }
+    requires declarer_here { declarer.number < length step.now.world.now }
+    ensures { IsTrue result ↔ IsRestricted step.now.world.now (site_of step.now) declarer.number flags }
+{
+    is_protected(flags)
+        && step.world.is_subclass(step.from, declarer)
+        && !are_in_one_package(step.world, step.from, declarer)
+}
+
+/// Whether a receiver passes the check for a protected member of this class and name.
+fn passes_protected(
+    step: &Step,
+    current: &VType,
+    declarer: ClassId,
+    flags: Access,
+    name: &[u8],
+    receiver: &VType,
+) -> bool
+    requires from_here { step.now.from.number < length step.now.world.now }
+    requires declarer_here { declarer.number < length step.now.world.now }
+    requires current { (class : Shape) × IsThisClass step.now.world.now (site_of step.now) class × (current.now ≡ Class class.name) }
+    ensures { IsTrue result ↔ PassesProtected step.now.world.now (site_of step.now) declarer.number flags name.now receiver.now }
+{
+    if !is_restricted(step, declarer, flags) {
+        return true;
+    }
+    if is_array(receiver) && name == b"clone".as_slice() {
+        return true;
+    }
+    assignable(step.world, receiver, current)
+}
+
+/// The access flags of a field.
+fn field_flags(world: &World, f: FieldId) -> Access
+    requires { HasField world.now f }
+    ensures flags { (x : FieldValue) × IsField world.now f x × (result ≡ x.flags) }
+    ensures world { IsWorld world.now }
+{
+    world.shape(f.class).fields.as_slice()[f.index as usize].flags
+}
+
+/// The access flags of a method.
+fn method_flags(world: &World, m: MethodId) -> Access
+    requires { HasMethod world.now m }
+    ensures flags { (x : MethodValue) × IsMethod world.now m x × (result ≡ x.flags) }
+    ensures world { IsWorld world.now }
+{
+    world.shape(m.class).methods.as_slice()[m.index as usize].flags
+}
+
+/// The method of a class or array to which a reference resolves, if there is one.
+fn resolved_method(
+    alloc: Global,
+    world: &World,
+    r: &MethodRef,
+) -> Result<Option<MethodId>, AllocError>
+    ensures found { IfOk result (λ o. IfSome o (ResolvesMethod world.now r.now)) }
+    ensures none { IfOk result (λ o. IfNone o ((m : MethodId) → ¬ ResolvesMethod world.now r.now m)) }
+{
+    match resolve_method(alloc, world, r) {
+        Ok(m) => Ok(Some(m)),
+        Err(ResolveRefusal::NotFound) => Ok(None),
+        Err(ResolveRefusal::WrongKind) => Ok(None),
+        Err(ResolveRefusal::NoAccess) => Ok(None),
+        Err(ResolveRefusal::Memory) => Err(AllocError),
+    }
+}
+
+/// Whether a receiver passes the check for the field that a reference resolves to.
+pub fn passes_for_field(
+    alloc: Global,
+    step: &Step,
+    r: &FieldRef,
+    receiver: &VType,
+) -> Result<bool, AllocError>
+    requires { step.now.from.number < length step.now.world.now }
+    ensures { IfOk result (λ passes. IsTrue passes ↔ PassesForField step.now.world.now (site_of step.now) r.now receiver.now) }
+{
+    let Some(f) = resolved_field(alloc, step.world, r)? else {
+        return Ok(true);
+    };
+    let current = this_type(alloc, step)?;
+    let flags = field_flags(step.world, f);
+    Ok(passes_protected(step, &current, f.class, flags, &[], receiver))
+}
+
+/// Whether a receiver passes the check for the method that a reference resolves to.
+pub fn passes_for_method(
+    alloc: Global,
+    step: &Step,
+    r: &MethodRef,
+    receiver: &VType,
+) -> Result<bool, AllocError>
+    requires { step.now.from.number < length step.now.world.now }
+    ensures { IfOk result (λ passes. IsTrue passes ↔ PassesForMethod step.now.world.now (site_of step.now) r.now receiver.now) }
+{
+    let Some(m) = resolved_method(alloc, step.world, r)? else {
+        return Ok(true);
+    };
+    let current = this_type(alloc, step)?;
+    let flags = method_flags(step.world, m);
+    let name = r.name.as_slice();
+    Ok(passes_protected(step, &current, m.class, flags, name, receiver))
+}
