@@ -14,7 +14,7 @@ use Rattle.jv_typing.proofs.TypingOnce.{SameParts, same_ends}
 use Rattle.jv_typing.specs.References.{LoadsItem}
 use Rattle.jv_typing.specs.declared.rules.RefRule.TheVariants as rules
 use Rattle.jv_verify_refs.specs.declared.step.Step.{Step}
-use Rattle.jv_verify_refs.specs.Parts.{IsWithStack, StepGoes, HasNoTyping}
+use Rattle.jv_verify_refs.specs.Steps.Parts.{IsWithStack, StepGoes, HasNoTyping}
 use Rattle.jv_verify_refs.proofs.LowestWords.{array_not_wide, receiver_fits, goes_with, at_top, to_array, one_item}
 
 -- ---- aaload

@@ -11,7 +11,7 @@ use Rattle.jv_resolve.proofs.Hierarchy.{one_shape}
 use Rattle.jv_typing.specs.Transitions.{CanPop}
 use Rattle.jv_typing.specs.References.{IsPlainName, param_types}
 use Rattle.jv_verify_refs.specs.declared.step.Step.{Step}
-use Rattle.jv_verify_refs.specs.Parts.{Pops, CallsOn, CallsSpecial}
+use Rattle.jv_verify_refs.specs.Steps.Parts.{Pops, CallsOn, CallsSpecial}
 
 -- the type of the current class
 abbrev pub IsThisType : Step → VType → Type 0

@@ -23,7 +23,7 @@ use Rattle.jv_frames.proofs.Arrays.{is_object-Array}
 use Rattle.jv_typing.specs.Transitions.{CanPop, IsReplaced, StandsBelow}
 use Rattle.jv_typing.specs.References.{IsInitialised, this, made, param_types}
 use Rattle.jv_verify_refs.specs.declared.step.Step.{Step}
-use Rattle.jv_verify_refs.specs.Parts.{Pops, IsOfThis, IsMadeAt, IsThisMade, Initialises, AreInitialised, CallsConstructor}
+use Rattle.jv_verify_refs.specs.Steps.Parts.{Pops, IsOfThis, IsMadeAt, IsThisMade, Initialises, AreInitialised, CallsConstructor}
 use Rattle.jv_verify_refs.proofs.Transits.{one_below}
 use Rattle.jv_verify_refs.proofs.LowestWords.{lowest_fits, receiver_fits}
 

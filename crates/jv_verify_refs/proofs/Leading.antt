@@ -10,12 +10,8 @@ use Rattle.jv_typing.specs.Rules.{ref_rules}
 use Rattle.jv_typing.specs.References.{IsRefTyping, HasRuleTyping}
 use Rattle.jv_typing.specs.declared.rules.RefRule.{RefRule}
 use Rattle.jv_verify_refs.specs.declared.step.Step.{Step}
-use Rattle.jv_verify_refs.specs.Parts.{site_of, HasTyping, HasNoTyping}
-use Rattle.jv_verify_refs.specs.Steps.{LeadsTo}
-
-pub leads : (step : Step) (rule : RefRule) (after : Frame) → at_offset step.pc step.body.now.insns ≡ Some step.insn.now → row_of nat_cmp step.insn.now.op ref_rules ≡ Some rule
-    → HasTyping step rule after → LeadsTo step.world.now (site_of step) step.frame.now after
-leads step rule after at is typing = (step.insn.now, at, record { rule = rule; stands = is; typing = typing })
+use Rattle.jv_verify_refs.specs.Steps.Parts.{site_of, HasTyping, HasNoTyping}
+use Rattle.jv_verify_refs.specs.Leads.{LeadsTo}
 
 same_insn : (step : Step) (insn : Insn) → at_offset step.pc step.body.now.insns ≡ Some step.insn.now → at_offset step.pc step.body.now.insns ≡ Some insn → insn ≡ step.insn.now
 same_insn step insn at other = let e : Some insn ≡ Some step.insn.now = sym other ∙ at in cc

@@ -103,8 +103,7 @@ other_lowest w cells stack word type other more narrow thin stands fits p =
       are = sym (AllZip-long (IsAssignable w) parts.1 (in_words more) parts.4);
     } in
     let fits_mine : IsAssignable w parts.0 other = subst (λ (t : VType). IsAssignable w t other) (sym (one_receiver (length (in_words more)) stack parts.0 word mine stands)) fits in
-    let all : AllZip (IsAssignable w) (parts.0 ∷ parts.1) (other ∷ in_words more) = (fits_mine, parts.4) in
-    (
+    let all : AllZip (IsAssignable w) (parts.0 ∷ parts.1) (other ∷ in_words more) = (fits_mine, parts.4) in (
       record {
         takes = p.takes;
         fits = subst (λ (ws : List VType). AllZip (IsAssignable w) ws (in_words (other ∷ more))) (sym parts.2)

@@ -8,7 +8,7 @@ use Rattle.jv_types.specs.declared.frames.Frame.{Frame}
 use Rattle.jv_typing.specs.Transitions.{AreReplaced}
 use Rattle.jv_typing.specs.declared.rules.RefRule.TheVariants as rules
 use Rattle.jv_verify_refs.specs.declared.step.Step.{Step}
-use Rattle.jv_verify_refs.specs.Parts.{HasTyping, HasNoTyping}
+use Rattle.jv_verify_refs.specs.Steps.Parts.{HasTyping, HasNoTyping}
 
 pub makes_one : (step : Step) (locals stack : List VType) → ((name : List ℕ) × (step.insn.now.arg ≡ args.Class (refs.Class name))) → (Contains step.frame.now.stack (Uninit step.pc) → ⊥)
     → AreReplaced (Uninit step.pc) Top step.frame.now.locals locals → stack ≡ step.frame.now.stack ++ Uninit step.pc ∷ [] → length stack ≤ step.body.now.max_stack

@@ -13,7 +13,7 @@ use Rattle.jv_types.specs.declared.references.MethodRef.{MethodRef}
 use Rattle.jv_typing.specs.References.{const_type}
 use Rattle.jv_typing.specs.declared.rules.RefRule.TheVariants as rules
 use Rattle.jv_verify_refs.specs.declared.step.Step.{Step}
-use Rattle.jv_verify_refs.specs.Parts.{StepGoes, HasTyping, HasNoTyping}
+use Rattle.jv_verify_refs.specs.Steps.Parts.{StepGoes, HasTyping, HasNoTyping}
 
 -- ---- one operand
 

@@ -8,7 +8,7 @@ use Rattle.jv_resolve.proofs.MembersLemmas.{one_method}
 use Rattle.jv_frames.specs.Types.{desc_vtype}
 use Rattle.jv_typing.specs.declared.rules.RefRule.TheVariants as rules
 use Rattle.jv_verify_refs.specs.declared.step.Step.{Step}
-use Rattle.jv_verify_refs.specs.Parts.{StepGoes, HasNoTyping}
+use Rattle.jv_verify_refs.specs.Steps.Parts.{StepGoes, HasNoTyping}
 
 pub no_return : (step : Step) (shape : MethodShape) (type : Desc) → IsMethod step.world.now step.method shape → shape.desc.result ≡ Some type
     → ((after : Frame) → StepGoes step (desc_vtype type ∷ []) [] after → ⊥) → HasNoTyping step rules.ReturnValue

@@ -10,7 +10,7 @@ use Rattle.jv_typing.specs.Typing.{AreStored}
 use Rattle.jv_typing.specs.Transitions.{CanPop}
 use Rattle.jv_typing.specs.declared.rules.RefRule.TheVariants as rules
 use Rattle.jv_verify_refs.specs.declared.step.Step.{Step}
-use Rattle.jv_verify_refs.specs.Parts.{Pops, HasTyping, HasNoTyping}
+use Rattle.jv_verify_refs.specs.Steps.Parts.{Pops, HasTyping, HasNoTyping}
 use Rattle.jv_verify_refs.proofs.Transits.{one_below}
 
 -- what was popped stands behind what is left

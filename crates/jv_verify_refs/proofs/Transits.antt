@@ -12,7 +12,7 @@ use Rattle.jv_typing.proofs.TypingOnce.{SameParts, same_tops}
 use Rattle.jv_typing.proofs.Popping.{taken_behind, leaves_of_ends}
 use Rattle.jv_typing.specs.Parts.{LeavesCells}
 use Rattle.jv_typing.specs.Transitions.{CanPop, IsTransition}
-use Rattle.jv_verify_refs.specs.Parts.{Pops, IsWithStack}
+use Rattle.jv_verify_refs.specs.Steps.Parts.{Pops, IsWithStack}
 
 -- ---- what is popped
 

@@ -5,7 +5,7 @@ ghost use Rattle.jv_frames.specs.Types.{is_array};
 ghost use Rattle.jv_typing.specs.References.{LoadsItem};
 ghost use Rattle.jv_typing.specs.declared.no_typing.NoTyping.TheVariants as none;
 ghost use Rattle.jv_typing.specs.declared.rules.RefRule.TheVariants as rules;
-ghost use Rattle.jv_verify_refs.specs.Parts.{HasTyping, HasNoTyping};
+ghost use Rattle.jv_verify_refs.specs.Steps.Parts.{HasTyping, HasNoTyping};
 
 use crate::frames::with_stack;
 use crate::pops::goes;

@@ -5,7 +5,7 @@ ghost use Rattle.jv_resolve.specs.Members.{init_name};
 ghost use Rattle.jv_typing.specs.References.{IsPlainName};
 ghost use Rattle.jv_typing.specs.declared.no_typing.NoTyping.TheVariants as none;
 ghost use Rattle.jv_typing.specs.declared.rules.RefRule.TheVariants as rules;
-ghost use Rattle.jv_verify_refs.specs.Parts.{HasTyping, HasNoTyping, CallsOn, CallsStatic, CallsInterface, CallsVirtual, CallsSpecial, CallsEither};
+ghost use Rattle.jv_verify_refs.specs.Steps.Parts.{HasTyping, HasNoTyping, CallsOn, CallsStatic, CallsInterface, CallsVirtual, CallsSpecial, CallsEither};
 
 use crate::inits::call_constructor;
 use crate::operands::method_of;

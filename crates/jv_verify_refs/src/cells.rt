@@ -1,7 +1,7 @@
 ghost use Rattle.std.specs.Prelude.{◌≡◌, ◌++◌, map, replicate, IfOk, OnOk};
 ghost use Rattle.jv_table.specs.declared.code_tables.Cell.TheVariants.{Int};
 ghost use Rattle.jv_insn.specs.Effects.{desc_cell, effect_of, op_row, row_takes};
-ghost use Rattle.jv_verify_refs.specs.Parts.{field_cells, method_cells};
+ghost use Rattle.jv_verify_refs.specs.Steps.Parts.{field_cells, method_cells};
 
 use jv_table::{Cell, opcode, ops};
 use jv_types::{Arg, Desc, FieldRef, Insn, MethodRef, Prim};

@@ -1,7 +1,7 @@
 ghost use Rattle.std.specs.Prelude.{◌≡◌, IfOk, Err};
 ghost use Rattle.jv_typing.specs.declared.no_typing.NoTyping.TheVariants as none;
 ghost use Rattle.jv_typing.specs.declared.rules.RefRule.TheVariants as rules;
-ghost use Rattle.jv_verify_refs.specs.Parts.{HasTyping, HasNoTyping};
+ghost use Rattle.jv_verify_refs.specs.Steps.Parts.{HasTyping, HasNoTyping};
 
 use crate::cells::cells_taken;
 use crate::operands::{multi_of, prim_of, type_of};
@@ -97,4 +97,3 @@ pub fn new_multi_array(alloc: Global, step: &Step) -> Result<Frame, NoTyping>
     let given = [ref_vtype(alloc, of)?];
     goes(alloc, step, wanted.as_slice(), &given)
 }
-

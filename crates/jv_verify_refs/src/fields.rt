@@ -3,7 +3,7 @@ ghost use Rattle.jv_types.specs.declared.frames.Frame.{Frame as FrameValue};
 ghost use Rattle.jv_resolve.specs.Members.{HasMethod};
 ghost use Rattle.jv_typing.specs.declared.no_typing.NoTyping.TheVariants as none;
 ghost use Rattle.jv_typing.specs.declared.rules.RefRule.TheVariants as rules;
-ghost use Rattle.jv_verify_refs.specs.Parts.{HasTyping, HasNoTyping, GetsField, PutsField, PutsOwnField, IsOwnField, IsConstructor};
+ghost use Rattle.jv_verify_refs.specs.Steps.Parts.{HasTyping, HasNoTyping, GetsField, PutsField, PutsOwnField, IsOwnField, IsConstructor};
 
 use crate::operands::field_of;
 use crate::pops::goes;
@@ -84,7 +84,10 @@ fn put_to(alloc: Global, step: &Step, field: &FieldRef) -> Result<Frame, NoTypin
     if !passes_for_field(alloc, step, field, receiver)? {
         return Err(NoTyping::Rule);
     }
-    let wanted = [VType::Class(field.class.copy()?), desc_vtype(alloc, &field.desc)?];
+    let wanted = [
+        VType::Class(field.class.copy()?),
+        desc_vtype(alloc, &field.desc)?,
+    ];
     goes(alloc, step, &wanted, &[])
 }
 

@@ -1,7 +1,7 @@
 ghost use Rattle.std.specs.Prelude.{◌≡◌, ◌++◌, IfOk, Err};
 ghost use Rattle.jv_types.specs.declared.frames.Frame.{Frame as FrameValue};
 ghost use Rattle.jv_typing.specs.declared.no_typing.NoTyping.TheVariants as none;
-ghost use Rattle.jv_verify_refs.specs.Parts.{IsWithStack};
+ghost use Rattle.jv_verify_refs.specs.Steps.Parts.{IsWithStack};
 
 use jv_types::{Frame, VType};
 use jv_typing::{NoTyping, copied, stack_with};

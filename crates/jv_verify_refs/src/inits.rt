@@ -8,7 +8,7 @@ ghost use Rattle.jv_frames.specs.Types.{is_uninit_this, in_words};
 ghost use Rattle.jv_typing.specs.Transitions.{StandsBelow};
 ghost use Rattle.jv_typing.specs.References.{param_types};
 ghost use Rattle.jv_typing.specs.declared.no_typing.NoTyping.TheVariants as none;
-ghost use Rattle.jv_verify_refs.specs.Parts.{CallsConstructor, IsOfThis, IsMadeAt, IsThisMade, Initialises, AreInitialised};
+ghost use Rattle.jv_verify_refs.specs.Steps.Parts.{CallsConstructor, IsOfThis, IsMadeAt, IsThisMade, Initialises, AreInitialised};
 
 use crate::objects::replaced;
 use crate::operands::type_of;
@@ -89,12 +89,7 @@ fn is_made_at(step: &Step, pc: u16, class: &RefType) -> bool
 }
 
 /// What a constructor of the class of this name makes of what the `new` at an offset made.
-fn new_made(
-    step: &Step,
-    pc: u16,
-    class: &RefType,
-    name: &Name,
-) -> Result<Option<VType>, AllocError>
+fn new_made(step: &Step, pc: u16, class: &RefType, name: &Name) -> Result<Option<VType>, AllocError>
     ensures found { IfOk result (λ o. IfSome o (λ made. IsMadeAt step.now pc class.now × (made ≡ Class name.now))) }
     ensures none { IfOk result (λ o. IfNone o (IsMadeAt step.now pc class.now → ⊥)) }
 {
@@ -193,11 +188,7 @@ fn construct(
 }
 
 /// A call of a constructor, whose receiver isn't initialised yet (JVMS 4.10.1.9.invokespecial).
-pub fn call_constructor(
-    alloc: Global,
-    step: &Step,
-    method: &MethodRef,
-) -> Result<Frame, NoTyping>
+pub fn call_constructor(alloc: Global, step: &Step, method: &MethodRef) -> Result<Frame, NoTyping>
     requires { step.now.from.number < length step.now.world.now }
     ensures typed { IfOk result (CallsConstructor step.now method.now) }
     ensures rule { result ≡ Err none.Rule → (after : FrameValue) → CallsConstructor step.now method.now after → ⊥ }

@@ -4,7 +4,7 @@ ghost use Rattle.jv_types.specs.declared.frames.VType.{Top};
 ghost use Rattle.std.specs.Prelude.{◌∷◌, []};
 ghost use Rattle.jv_typing.specs.declared.no_typing.NoTyping.TheVariants as none;
 ghost use Rattle.jv_typing.specs.declared.rules.RefRule.TheVariants as rules;
-ghost use Rattle.jv_verify_refs.specs.Parts.{HasTyping, HasNoTyping, Pops};
+ghost use Rattle.jv_verify_refs.specs.Steps.Parts.{HasTyping, HasNoTyping, Pops};
 
 use crate::frames::with_stack;
 use crate::pops::popped;

@@ -3,7 +3,7 @@ ghost use Rattle.jv_insn.specs.Effects.{shuffle_of};
 ghost use Rattle.jv_typing.specs.Typing.{is_top, are_whole, in_order};
 ghost use Rattle.jv_typing.specs.declared.no_typing.NoTyping.TheVariants as none;
 ghost use Rattle.jv_typing.specs.declared.rules.RefRule.TheVariants as rules;
-ghost use Rattle.jv_verify_refs.specs.Parts.{HasTyping, HasNoTyping, IsShuffleOf};
+ghost use Rattle.jv_verify_refs.specs.Steps.Parts.{HasTyping, HasNoTyping, IsShuffleOf};
 
 use crate::frames::with_stack;
 use crate::step::Step;
@@ -126,5 +126,11 @@ pub fn move_words(alloc: Global, step: &Step) -> Result<Frame, NoTyping>
     if !are_whole(false, after.as_slice()) {
         return Err(NoTyping::Rule);
     }
-    with_stack(alloc, step.frame, below, after.as_slice(), step.body.max_stack)
+    with_stack(
+        alloc,
+        step.frame,
+        below,
+        after.as_slice(),
+        step.body.max_stack,
+    )
 }

@@ -4,7 +4,7 @@ ghost use Rattle.jv_types.specs.declared.desc.RefType as refs;
 ghost use Rattle.jv_typing.specs.Transitions.{AreReplaced, IsReplaced};
 ghost use Rattle.jv_typing.specs.declared.no_typing.NoTyping.TheVariants as none;
 ghost use Rattle.jv_typing.specs.declared.rules.RefRule.TheVariants as rules;
-ghost use Rattle.jv_verify_refs.specs.Parts.{HasTyping, HasNoTyping};
+ghost use Rattle.jv_verify_refs.specs.Steps.Parts.{HasTyping, HasNoTyping};
 
 use crate::step::Step;
 use jv_types::{Arg, Frame, RefType, Seq, VType};
@@ -12,12 +12,7 @@ use jv_typing::{NoTyping, stack_with};
 use std::alloc::{AllocError, Global};
 
 /// A type, or another one in place of it.
-fn replaced_one(
-    alloc: Global,
-    old: &VType,
-    new: &VType,
-    word: &VType,
-) -> Result<VType, AllocError>
+fn replaced_one(alloc: Global, old: &VType, new: &VType, word: &VType) -> Result<VType, AllocError>
     ensures { IfOk result (IsReplaced old.now new.now word.now) }
 {
     if word.is(old) {

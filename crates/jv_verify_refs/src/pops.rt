@@ -4,7 +4,7 @@ ghost use Rattle.jv_types.specs.declared.frames.Frame.{Frame as FrameValue};
 ghost use Rattle.jv_typing.specs.Transitions.{CanPop};
 ghost use Rattle.jv_typing.specs.References.{Goes};
 ghost use Rattle.jv_typing.specs.declared.no_typing.NoTyping.TheVariants as none;
-ghost use Rattle.jv_verify_refs.specs.Parts.{Pops, site_of};
+ghost use Rattle.jv_verify_refs.specs.Steps.Parts.{Pops, site_of};
 
 use crate::cells::cells_taken;
 use crate::frames::with_stack;

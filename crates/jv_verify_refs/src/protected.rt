@@ -4,12 +4,11 @@ ghost use Rattle.jv_types.specs.declared.shapes.FieldShape.{FieldShape as FieldV
 ghost use Rattle.jv_types.specs.declared.shapes.MethodShape.{MethodShape as MethodValue};
 ghost use Rattle.jv_types.specs.declared.shapes.Shape.{Shape};
 ghost use Rattle.jv_types.specs.declared.ids.MethodId.{MethodId};
-
 ghost use Rattle.jv_world.specs.Worlds.{IsWorld};
 ghost use Rattle.jv_resolve.specs.Members.{HasField, HasMethod, IsField, IsMethod};
 ghost use Rattle.jv_resolve.specs.Resolving.{ResolvesMethod};
 ghost use Rattle.jv_typing.specs.References.{IsThisClass, IsRestricted, PassesProtected, PassesForField, PassesForMethod};
-ghost use Rattle.jv_verify_refs.specs.Parts.{site_of};
+ghost use Rattle.jv_verify_refs.specs.Steps.Parts.{site_of};
 
 use crate::step::Step;
 use crate::types::is_array;

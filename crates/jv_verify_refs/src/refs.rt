@@ -2,8 +2,8 @@ ghost use Rattle.std.specs.Prelude.{◌≡◌, ◌<◌, IfOk, Err, length};
 ghost use Rattle.jv_types.specs.declared.frames.Frame.{Frame as FrameValue};
 ghost use Rattle.jv_resolve.specs.Members.{HasMethod};
 ghost use Rattle.jv_typing.specs.declared.no_typing.NoTyping.TheVariants as none;
-ghost use Rattle.jv_verify_refs.specs.Steps.{site, LeadsTo};
-ghost use Rattle.jv_verify_refs.specs.Parts.{HasTyping, HasNoTyping};
+ghost use Rattle.jv_verify_refs.specs.Leads.{site, LeadsTo};
+ghost use Rattle.jv_verify_refs.specs.Steps.Parts.{HasTyping, HasNoTyping};
 
 use crate::arrays::{
     array_length, load_item, load_ref, load_small, store_item, store_ref, store_small,

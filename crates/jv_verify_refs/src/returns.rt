@@ -1,8 +1,7 @@
 ghost use Rattle.std.specs.Prelude.{◌≡◌, IfOk, Err};
 ghost use Rattle.jv_typing.specs.declared.no_typing.NoTyping.TheVariants as none;
 ghost use Rattle.jv_typing.specs.declared.rules.RefRule.TheVariants as rules;
-ghost use Rattle.jv_verify_refs.specs.Parts.{HasTyping, HasNoTyping};
-
+ghost use Rattle.jv_verify_refs.specs.Steps.Parts.{HasTyping, HasNoTyping};
 ghost use Rattle.jv_resolve.specs.Members.{HasMethod};
 
 use crate::pops::goes;

@@ -1,7 +1,7 @@
 use Rattle.std.proofs.Common.{inl, inr}
 use Rattle.std.proofs.lemmas.Result.{IfOk-weaker}
 use Rattle.jv_resolve.proofs.Tests.{denied}
-use Rattle.jv_verify_refs.specs.Parts.{CallsConstructor, CallsSpecial, CallsEither}
+use Rattle.jv_verify_refs.specs.Steps.Parts.{CallsConstructor, CallsSpecial, CallsEither}
 use Rattle.jv_verify_refs.proofs.calls.call_either.Goals as goal
 
 pub returns-then-is_init-clause-typed : goal.returns-then-is_init-clause-typed

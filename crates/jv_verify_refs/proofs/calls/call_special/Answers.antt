@@ -1,7 +1,7 @@
 use Rattle.std.proofs.lemmas.Result.{IfOk-weaker}
 use Rattle.jv_frames.specs.Types.{ref_vtype}
 use Rattle.jv_resolve.proofs.Tests.{denied}
-use Rattle.jv_verify_refs.specs.Parts.{CallsOn, CallsSpecial}
+use Rattle.jv_verify_refs.specs.Steps.Parts.{CallsOn, CallsSpecial}
 use Rattle.jv_verify_refs.proofs.Calling.{special_class, special_pops, specials}
 use Rattle.jv_verify_refs.proofs.calls.call_special.Goals as goal
 
@@ -10,8 +10,8 @@ returns-then-not-assignable-clause-rule c = λ is after h.
     denied c.assignable.result c.if-not-assignable.true (rw c.in_ok-class.ensures at c.assignable.ensures.1)
     (special_class c.args.step.now c.args.method.now c.in_ok-current.current after c.in_ok-current.ensures h)
 
-pub returns-in-Err-clause-rule : goal.returns-in-Err-clause-rule
-returns-in-Err-clause-rule c = λ is after h.
+pub returns-clause-rule : goal.returns-clause-rule
+returns-clause-rule c = λ is after h.
     let none = rw (c.as_slice.ensures.value, c.in_ok-wanted.ensures, c.as_slice-2.ensures) at (c.in-Err.ensures.rule (let e = is in cc)) in
     none (special_pops c.args.step.now c.args.method.now c.in_ok-current.current after c.in_ok-current.ensures h)
 

@@ -4,7 +4,7 @@ use Rattle.jv_types.specs.declared.frames.VType.{VType}
 use Rattle.jv_frames.specs.Types.{in_words, ref_vtype}
 use Rattle.jv_resolve.proofs.Tests.{denied}
 use Rattle.jv_typing.specs.References.{PassesForMethod, param_types}
-use Rattle.jv_verify_refs.specs.Parts.{site_of, CallsOn, CallsVirtual}
+use Rattle.jv_verify_refs.specs.Steps.Parts.{site_of, CallsOn, CallsVirtual}
 use Rattle.jv_verify_refs.proofs.LowestWords.{one_receiver}
 use Rattle.jv_verify_refs.proofs.calls.call_virtual.Goals as goal
 

@@ -1,7 +1,8 @@
 use Rattle.std.proofs.Common.{subst}
-use Rattle.std.specs.Prelude.{◌⊎◌}
 use Rattle.jv_types.specs.declared.references.MethodRef.{MethodRef}
-use Rattle.jv_verify_refs.specs.Parts.{CallsInterface}
+use Rattle.std.proofs.lemmas.Result.{IfOk-weaker}
+use Rattle.jv_typing.specs.declared.rules.RefRule.TheVariants as rules
+use Rattle.jv_verify_refs.specs.Steps.Parts.{HasTyping, CallsInterface}
 use Rattle.jv_verify_refs.proofs.Named.{one_method}
 use Rattle.jv_verify_refs.proofs.calls.invoke_interface.Goals as goal
 
@@ -9,3 +10,9 @@ pub returns-in-Some-clause-rule : goal.returns-in-Some-clause-rule
 returns-in-Some-clause-rule c = λ is after h.
     let s = c.args.step.now in
     c.call_interface.ensures.rule is after (subst (λ (r : MethodRef). CallsInterface s r after) (one_method s.insn.now.arg h.0 c.in-Some.method.now h.1 c.in-Some.ensures.found) (h.2, h.3))
+
+pub returns-in-Some-clause-typed : goal.returns-in-Some-clause-typed
+returns-in-Some-clause-typed c =
+    let s = c.args.step.now in
+    let method = c.in-Some.method.now in
+    IfOk-weaker c.call_interface.result (CallsInterface s method) (HasTyping s rules.InvokeInterface) (λ after h. (method, c.in-Some.ensures.found, h.0, h.1)) c.call_interface.ensures.typed

@@ -2,7 +2,7 @@ use Rattle.std.proofs.Common.{[], ◌∷◌, subst}
 use Rattle.jv_types.specs.declared.desc.PrimType.{PrimType}
 use Rattle.jv_types.specs.declared.frames.VType.{Integer, PrimArray}
 use Rattle.jv_verify_refs.proofs.Named.{one_prim}
-use Rattle.jv_verify_refs.specs.Parts.{StepGoes}
+use Rattle.jv_verify_refs.specs.Steps.Parts.{StepGoes}
 use Rattle.jv_verify_refs.proofs.checks.new_array.Goals as goal
 
 pub returns-clause-rule : goal.returns-clause-rule

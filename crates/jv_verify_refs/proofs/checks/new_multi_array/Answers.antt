@@ -3,7 +3,7 @@ use Rattle.jv_types.specs.declared.desc.RefType.{RefType}
 use Rattle.jv_types.specs.declared.frames.VType.{Integer}
 use Rattle.jv_frames.specs.Types.{ref_vtype}
 use Rattle.jv_verify_refs.proofs.Named.{one_multi, one_count}
-use Rattle.jv_verify_refs.specs.Parts.{StepGoes}
+use Rattle.jv_verify_refs.specs.Steps.Parts.{StepGoes}
 use Rattle.jv_verify_refs.proofs.checks.new_multi_array.Goals as goal
 
 pub returns-clause-rule : goal.returns-clause-rule

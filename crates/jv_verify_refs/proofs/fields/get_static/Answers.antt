@@ -1,7 +1,7 @@
 use Rattle.std.proofs.Common.{[], ◌∷◌, subst}
 use Rattle.jv_types.specs.declared.references.FieldRef.{FieldRef}
 use Rattle.jv_frames.specs.Types.{desc_vtype}
-use Rattle.jv_verify_refs.specs.Parts.{StepGoes}
+use Rattle.jv_verify_refs.specs.Steps.Parts.{StepGoes}
 use Rattle.jv_verify_refs.proofs.Named.{one_field}
 use Rattle.jv_verify_refs.proofs.fields.get_static.Goals as goal
 

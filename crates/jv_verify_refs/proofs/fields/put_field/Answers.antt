@@ -1,7 +1,7 @@
 use Rattle.std.proofs.Common.{subst}
 use Rattle.std.specs.Prelude.{◌⊎◌}
 use Rattle.jv_types.specs.declared.references.FieldRef.{FieldRef}
-use Rattle.jv_verify_refs.specs.Parts.{PutsField, PutsOwnField}
+use Rattle.jv_verify_refs.specs.Steps.Parts.{PutsField, PutsOwnField}
 use Rattle.jv_verify_refs.proofs.Named.{one_field}
 use Rattle.jv_verify_refs.proofs.fields.put_field.Goals as goal
 

@@ -4,7 +4,7 @@ use Rattle.jv_types.specs.declared.frames.VType.{VType, Class}
 use Rattle.jv_frames.specs.Types.{desc_vtype, in_words}
 use Rattle.jv_resolve.proofs.Tests.{denied}
 use Rattle.jv_typing.specs.References.{PassesForField}
-use Rattle.jv_verify_refs.specs.Parts.{site_of, StepGoes, PutsField}
+use Rattle.jv_verify_refs.specs.Steps.Parts.{site_of, StepGoes, PutsField}
 use Rattle.jv_verify_refs.proofs.LowestWords.{one_receiver}
 use Rattle.jv_verify_refs.proofs.fields.put_to.Goals as goal
 

@@ -1,7 +1,7 @@
 use Rattle.std.proofs.Common.{◌≡◌, arith}
 use Rattle.jv_types.specs.declared.frames.VType.{VType, Class}
 use Rattle.jv_resolve.proofs.Tests.{ok_none, ok_some}
-use Rattle.jv_verify_refs.specs.Parts.{IsOfThis, IsMadeAt, IsThisMade, Initialises}
+use Rattle.jv_verify_refs.specs.Steps.Parts.{IsOfThis, IsMadeAt, IsThisMade, Initialises}
 use Rattle.jv_verify_refs.proofs.Initialising.{this_is, no_this, made_is, no_made, no_other, no_class}
 use Rattle.jv_verify_refs.proofs.inits.initialised.Goals as goal
 

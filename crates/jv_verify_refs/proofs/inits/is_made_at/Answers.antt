@@ -1,6 +1,6 @@
 use Rattle.std.proofs.Common.{sym}
 use Rattle.jv_resolve.proofs.Tests.{never}
-use Rattle.jv_verify_refs.specs.Parts.{IsMadeAt}
+use Rattle.jv_verify_refs.specs.Steps.Parts.{IsMadeAt}
 use Rattle.jv_verify_refs.proofs.Initialising.{made_at, none_at_offset}
 use Rattle.jv_verify_refs.proofs.inits.is_made_at.Goals as goal
 

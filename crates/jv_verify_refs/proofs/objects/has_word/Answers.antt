@@ -19,4 +19,4 @@ loop-other-preserved c = λ p.
 pub returns : goal.returns
 returns c =
     never (Contains c.args.words.now c.args.word.now) (λ p.
-        c.loop-other.invariant (subst (λ (ws : List VType). Contains ws c.args.word.now) (sym (take_all c.loop-other.other-index c.args.words.now c.loop-other-test.false)) p))
+    c.loop-other.invariant (subst (λ (ws : List VType). Contains ws c.args.word.now) (sym (take_all c.loop-other.other-index c.args.words.now c.loop-other-test.false)) p))

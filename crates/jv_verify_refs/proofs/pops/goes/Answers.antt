@@ -3,7 +3,7 @@ use Rattle.std.proofs.lemmas.Result.{IfOk-weaker}
 use Rattle.jv_insn.specs.Effects.{effect_of}
 use Rattle.jv_frames.specs.Types.{in_words}
 use Rattle.jv_typing.specs.Transitions.{IsTransition}
-use Rattle.jv_verify_refs.specs.Parts.{IsWithStack}
+use Rattle.jv_verify_refs.specs.Steps.Parts.{IsWithStack}
 use Rattle.jv_verify_refs.proofs.Transits.{transits, transits_not}
 use Rattle.jv_verify_refs.proofs.pops.goes.Goals as goal
 

@@ -3,7 +3,7 @@ use Rattle.std.proofs.lemmas.Option.{slice_get_within}
 use Rattle.jv_types.specs.declared.ids.FieldId.{FieldId}
 use Rattle.jv_resolve.specs.Resolving.{ResolvesField}
 use Rattle.jv_resolve.proofs.Tests.{none_at, some_at}
-use Rattle.jv_verify_refs.specs.Parts.{site_of}
+use Rattle.jv_verify_refs.specs.Steps.Parts.{site_of}
 use Rattle.jv_verify_refs.proofs.Receiving.{passes_field}
 use Rattle.jv_verify_refs.proofs.protected.passes_for_field.Goals as goal
 
