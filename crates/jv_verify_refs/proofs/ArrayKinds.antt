@@ -1,5 +1,5 @@
 -- What an instruction on an array has no typing for.
-use Rattle.std.proofs.Common.{◌≡◌, ◌≤◌, ℕ, false, IsTrue, List, [], ◌∷◌, ◌++◌, length, inl, inr, refl, sym, ap, ◌∙◌, subst}
+use Rattle.std.proofs.Common.{◌≡◌, false, IsTrue, List, [], ◌∷◌, ◌++◌, inl, inr, refl, sym, ap, ◌∙◌, subst}
 use Rattle.std.specs.Prelude.{◌⊎◌}
 use Rattle.std.proofs.lemmas.Bool.{false≢true}
 use Rattle.jv_types.specs.declared.desc.PrimType.TheVariants.{Int}
@@ -7,7 +7,6 @@ use Rattle.jv_types.specs.declared.shapes.Shape.{Shape}
 use Rattle.jv_types.specs.declared.frames.VType.{VType, Integer, Null, PrimArray}
 use Rattle.jv_types.specs.declared.frames.Frame.{Frame}
 use Rattle.jv_insn.specs.Effects.{effect_of}
-use Rattle.jv_insn.specs.Kinds.{is_wide}
 use Rattle.jv_frames.specs.Types.{is_array, is_object}
 use Rattle.jv_frames.specs.Assignable.{IsAssignable, same, of_null}
 use Rattle.jv_typing.proofs.TypingOnce.{SameParts, same_ends}

@@ -1,5 +1,5 @@
 -- What a constructor makes of the type of its receiver, and of a frame.
-use Rattle.std.proofs.Common.{◌≡◌, ◌≤◌, ◌<◌, ℕ, Bool, false, if◌then◌else◌, IsTrue, slice_get, List, [], ◌∷◌, ◌++◌, length, Some, refl, sym, ap, ◌∙◌, subst, inl, inr, arith}
+use Rattle.std.proofs.Common.{◌≡◌, ◌≤◌, ◌<◌, ℕ, Bool, false, if◌then◌else◌, IsTrue, slice_get, List, ◌∷◌, length, Some, sym, ap, ◌∙◌, subst, arith}
 use Rattle.std.specs.Prelude.{◌⊎◌, ◌↔◌, None}
 use Rattle.std.specs.List.{AllZip}
 use Rattle.std.proofs.lemmas.Bool.{false≢true}
@@ -21,7 +21,7 @@ use Rattle.jv_frames.specs.Types.{is_object, is_uninit_this, in_words}
 use Rattle.jv_frames.specs.Assignable.{IsAssignable, same, to_top, of_null, of_class, of_array, of_items}
 use Rattle.jv_frames.proofs.Arrays.{is_object-Array}
 use Rattle.jv_typing.specs.Transitions.{CanPop, IsReplaced, StandsBelow}
-use Rattle.jv_typing.specs.References.{IsInitialised, this, made, param_types}
+use Rattle.jv_typing.specs.References.{this, made, param_types}
 use Rattle.jv_verify_refs.specs.declared.step.Step.{Step}
 use Rattle.jv_verify_refs.specs.Steps.Parts.{Pops, IsOfThis, IsMadeAt, IsThisMade, Initialises, AreInitialised, CallsConstructor}
 use Rattle.jv_verify_refs.proofs.Transits.{one_below}

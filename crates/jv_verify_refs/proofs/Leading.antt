@@ -1,13 +1,12 @@
 -- The instruction at an offset, and its rule.
 use Rattle.std.proofs.Common.{◌≡◌, ℕ, Some, sym, ◌∙◌, subst}
-use Rattle.std.specs.Prelude.{None, Option}
 use Rattle.std.specs.Ordering.{nat_cmp}
 use Rattle.jv_table.specs.Rows.{row_of}
 use Rattle.jv_types.specs.Bodies.{at_offset}
 use Rattle.jv_types.specs.declared.instruction.Insn.{Insn}
 use Rattle.jv_types.specs.declared.frames.Frame.{Frame}
 use Rattle.jv_typing.specs.Rules.{ref_rules}
-use Rattle.jv_typing.specs.References.{IsRefTyping, HasRuleTyping}
+use Rattle.jv_typing.specs.References.{IsRefTyping}
 use Rattle.jv_typing.specs.declared.rules.RefRule.{RefRule}
 use Rattle.jv_verify_refs.specs.declared.step.Step.{Step}
 use Rattle.jv_verify_refs.specs.Steps.Parts.{site_of, HasTyping, HasNoTyping}

@@ -1,6 +1,6 @@
 -- The word of a receiver, or of an array, among the values that are popped.
-use Rattle.std.proofs.Common.{◌≡◌, ℕ, Bool, true, false, IsTrue, List, [], ◌∷◌, ◌++◌, length, inl, inr, refl, sym, ap, ◌∙◌, subst, append_assoc, arith}
-use Rattle.std.specs.Prelude.{◌⊎◌, zero, suc}
+use Rattle.std.proofs.Common.{◌≡◌, ℕ, false, IsTrue, List, [], ◌∷◌, ◌++◌, length, inl, inr, refl, sym, ap, ◌∙◌, subst}
+use Rattle.std.specs.Prelude.{◌⊎◌, suc}
 use Rattle.std.specs.List.{AllZip}
 use Rattle.std.proofs.lemmas.Bool.{false≢true}
 use Rattle.std.proofs.lemmas.Slice.Zip.{AllZip-long}
@@ -10,7 +10,7 @@ use Rattle.jv_types.specs.declared.frames.VType.{VType, Top, Null, Class, PrimAr
 use Rattle.jv_types.specs.declared.frames.VType as types
 use Rattle.jv_types.specs.declared.frames.Frame.{Frame}
 use Rattle.jv_insn.specs.Kinds.{is_wide}
-use Rattle.jv_frames.specs.Types.{is_array, is_object, type_words, in_words}
+use Rattle.jv_frames.specs.Types.{is_array, type_words, in_words}
 use Rattle.jv_frames.specs.Assignable.{IsAssignable, same, to_top, of_null, of_class, of_array, of_items}
 use Rattle.jv_frames.proofs.Arrays.{is_array-Array, same_items}
 use Rattle.jv_typing.proofs.TypingOnce.{SameParts, same_ends}

@@ -4,7 +4,6 @@ use Rattle.std.specs.List.{Contains}
 use Rattle.jv_types.specs.declared.desc.RefType as refs
 use Rattle.jv_types.specs.declared.instruction.Arg.TheVariants as args
 use Rattle.jv_types.specs.declared.frames.VType.{VType, Top, Uninit}
-use Rattle.jv_types.specs.declared.frames.Frame.{Frame}
 use Rattle.jv_typing.specs.Transitions.{AreReplaced}
 use Rattle.jv_typing.specs.declared.rules.RefRule.TheVariants as rules
 use Rattle.jv_verify_refs.specs.declared.step.Step.{Step}

@@ -1,8 +1,7 @@
 -- What operands name is one, and what follows from what an instruction with them has no typing for.
-use Rattle.std.proofs.Common.{◌≡◌, ℕ, List, [], ◌∷◌, Some, sym, ap, ◌∙◌, subst}
+use Rattle.std.proofs.Common.{◌≡◌, ℕ, [], ◌∷◌, Some, sym, ap, ◌∙◌, subst}
 use Rattle.jv_types.specs.declared.desc.PrimType.{PrimType}
 use Rattle.jv_types.specs.declared.desc.RefType.{RefType}
-use Rattle.jv_types.specs.declared.desc.RefType as refs
 use Rattle.jv_types.specs.declared.instruction.Arg.{Arg}
 use Rattle.jv_types.specs.declared.instruction.Arg.TheVariants as args
 use Rattle.jv_types.specs.declared.instruction.Const.{Const}
@@ -13,7 +12,7 @@ use Rattle.jv_types.specs.declared.references.MethodRef.{MethodRef}
 use Rattle.jv_typing.specs.References.{const_type}
 use Rattle.jv_typing.specs.declared.rules.RefRule.TheVariants as rules
 use Rattle.jv_verify_refs.specs.declared.step.Step.{Step}
-use Rattle.jv_verify_refs.specs.Steps.Parts.{StepGoes, HasTyping, HasNoTyping}
+use Rattle.jv_verify_refs.specs.Steps.Parts.{StepGoes, HasNoTyping}
 
 -- ---- one operand
 

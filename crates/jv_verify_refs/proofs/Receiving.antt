@@ -1,5 +1,5 @@
 -- The receiver of a protected member.
-use Rattle.std.proofs.Common.{◌≡◌, ℕ, Bool, IsTrue, List, [], Some, slice_get, refl, sym, ap, ◌∙◌, subst}
+use Rattle.std.proofs.Common.{◌≡◌, ℕ, Bool, IsTrue, List, [], Some, slice_get, sym, ap, ◌∙◌, subst}
 use Rattle.std.specs.Prelude.{◌↔◌}
 use Rattle.jv_types.specs.declared.access.Access.{Access}
 use Rattle.jv_types.specs.declared.ids.FieldId.{FieldId}

@@ -1,5 +1,5 @@
 -- What a return has no typing for.
-use Rattle.std.proofs.Common.{◌≡◌, List, [], ◌∷◌, Some, Option, sym, ap, ◌∙◌, subst}
+use Rattle.std.proofs.Common.{◌≡◌, [], ◌∷◌, Some, sym, ap, ◌∙◌, subst}
 use Rattle.jv_types.specs.declared.desc.Desc.{Desc}
 use Rattle.jv_types.specs.declared.shapes.MethodShape.{MethodShape}
 use Rattle.jv_types.specs.declared.frames.Frame.{Frame}

@@ -1,8 +1,7 @@
 -- What a store of a reference leaves.
-use Rattle.std.proofs.Common.{◌≡◌, ◌≤◌, ◌<◌, ℕ, List, [], ◌∷◌, ◌++◌, length, drop, refl, sym, ap, ◌∙◌, subst, append-nil, arith}
+use Rattle.std.proofs.Common.{◌≡◌, ◌≤◌, ◌<◌, List, [], ◌∷◌, ◌++◌, length, drop, refl, sym, ap, ◌∙◌, subst, append-nil, arith}
 use Rattle.jv_table.specs.declared.code_tables.Cell.{Cell}
 use Rattle.jv_types.specs.declared.frames.VType.{VType, Top}
-use Rattle.jv_types.specs.declared.frames.Frame.{Frame}
 use Rattle.jv_types.specs.declared.shapes.Shape.{Shape}
 use Rattle.jv_insn.specs.Effects.{effect_of, local_of}
 use Rattle.jv_typing.proofs.Popping.{taken_behind}

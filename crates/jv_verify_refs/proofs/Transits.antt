@@ -1,5 +1,5 @@
 -- What is popped from a stack, and what a transition leaves.
-use Rattle.std.proofs.Common.{◌≡◌, ℕ, ◌≤◌, List, ◌++◌, length, drop, refl, sym, ap, ◌∙◌, subst}
+use Rattle.std.proofs.Common.{◌≡◌, ℕ, List, ◌++◌, length, drop, refl, sym, ap, ◌∙◌, subst}
 use Rattle.std.specs.List.{AllZip}
 use Rattle.jv_table.specs.declared.code_tables.Cell.{Cell}
 use Rattle.jv_types.specs.declared.shapes.Shape.{Shape}

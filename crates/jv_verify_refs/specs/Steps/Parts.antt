@@ -1,5 +1,5 @@
 -- The parts of a step on references.
-use Rattle.std.specs.Prelude.{◌≡◌, ◌≤◌, ℕ, false, ◌⊎◌, ◌==◌, ◌||◌, if◌then◌else◌, List, [], ◌∷◌, ◌++◌, length, map, Some}
+use Rattle.std.specs.Prelude.{◌≡◌, ◌≤◌, ℕ, false, ◌⊎◌, ◌==◌, if◌then◌else◌, List, [], ◌∷◌, ◌++◌, length, map, Some}
 use Rattle.jv_table.specs.declared.code_tables.Cell.{Cell}
 use Rattle.jv_table.specs.declared.code_tables.Cell.TheVariants.{Ref}
 use Rattle.jv_table.specs.declared.ops.TheConstants.{INVOKESTATIC, NEW}

@@ -2,7 +2,6 @@ use Rattle.std.proofs.Common.{[], ◌∷◌, subst}
 use Rattle.jv_types.specs.declared.desc.RefType.{RefType}
 use Rattle.jv_types.specs.declared.frames.VType.{Integer, Array}
 use Rattle.jv_frames.specs.Types.{ref_vtype}
-use Rattle.jv_typing.specs.References.{object_type}
 use Rattle.jv_verify_refs.proofs.Named.{one_type}
 use Rattle.jv_verify_refs.specs.Steps.Parts.{StepGoes}
 use Rattle.jv_verify_refs.proofs.checks.new_ref_array.Goals as goal

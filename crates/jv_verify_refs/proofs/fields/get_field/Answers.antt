@@ -1,5 +1,4 @@
 use Rattle.std.proofs.Common.{subst}
-use Rattle.std.specs.Prelude.{◌⊎◌}
 use Rattle.jv_types.specs.declared.references.FieldRef.{FieldRef}
 use Rattle.jv_verify_refs.specs.Steps.Parts.{GetsField}
 use Rattle.jv_verify_refs.proofs.Named.{one_field}

@@ -1,7 +1,7 @@
-use Rattle.std.proofs.Common.{[], ◌∷◌, length, subst}
+use Rattle.std.proofs.Common.{[], ◌∷◌, subst}
 use Rattle.std.proofs.lemmas.Result.{IfOk-weaker}
 use Rattle.jv_types.specs.declared.frames.VType.{VType, Class}
-use Rattle.jv_frames.specs.Types.{desc_vtype, in_words}
+use Rattle.jv_frames.specs.Types.{desc_vtype}
 use Rattle.jv_resolve.proofs.Tests.{denied}
 use Rattle.jv_typing.specs.References.{PassesForField}
 use Rattle.jv_verify_refs.specs.Steps.Parts.{site_of, StepGoes, GetsField}
