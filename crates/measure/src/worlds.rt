@@ -25,6 +25,7 @@ fn object(alloc: Global) -> Result<Name, AllocError> {
     Name::from_slice(alloc, b"java/lang/Object")
 }
 
+/// The name of the class at a place of a family.
 pub fn name_of(alloc: Global, place: usize) -> Result<Name, AllocError> {
     let text = format!(in alloc; "c/{place}")?;
     Name::from_slice(alloc, text.as_bytes())
@@ -76,6 +77,7 @@ fn shape_of(alloc: Global, family: Family, place: usize) -> Result<Shape, AllocE
     })
 }
 
+/// Object, and so many classes of a family behind it.
 pub fn shapes_of(alloc: Global, family: Family, classes: u32) -> Result<Vec<Shape>, AllocError> {
     let mut shapes = Vec::new(alloc);
     shapes.push(Shape {
