@@ -43,6 +43,7 @@ use Rattle.jv_typing.specs.Transitions.{AreReplaced}
 use Rattle.jv_typing.specs.References.{Site, Goes, string_type, class_type, const_type, result_types, LoadsItem, IsInitialised, this, made, IsInitTyping, IsSpecialTyping, IsNewTyping, IsLoadRefTyping, IsLoadTyping, IsStoreTyping, IsPutTyping, IsOwnPutTyping, HasRuleTyping}
 use Rattle.jv_typing.specs.Steps.{StepTyping, words, references}
 use Rattle.jv_typing.proofs.TypingOnce.{gives_numbers}
+use Rattle.jv_typing_laws.proofs.Tests.{where_true, where_false, not_true, none_is}
 use Rattle.jv_typing_laws.specs.Formed.{holds_references, are_formed, IsFormed}
 use Rattle.jv_typing_laws.proofs.OneFrame.{initialised_uninit}
 use Rattle.jv_typing_laws.proofs.FormedWords.{behind, in_words_formed, reference_formed, reference_one_word, ref_vtype_reference, ref_vtype_holds, array_holds, array_items, array_is_reference, desc_holds, numbers_formed, some_word_holds, head_parts, MayReplace}
@@ -75,22 +76,6 @@ pub data IsStepOf (insn : Insn) (frame after : Frame) : Type 0 where
   by_moving : (max_stack : ℕ) → (effect_of insn).takes ≡ [] → (effect_of insn).reads ≡ [] → is_store insn.op ≡ false → eqb insn.op IINC ≡ false → IsMoveTyping max_stack frame insn after → IsStepOf insn frame after
 
 -- ---- tables
-
-where_true : (b c : Bool) → b ≡ true → (not b || c) ≡ true → c ≡ true
-where_true true c t h = h
-where_true false c t h = absurd cc
-
-where_false : (b c : Bool) → b ≡ false → (b || c) ≡ true → c ≡ true
-where_false false c t h = h
-where_false true c t h = absurd cc
-
-not_true : (b : Bool) → not b ≡ true → b ≡ false
-not_true true e = absurd cc
-not_true false e = refl
-
-none_is : {X : Type 0} (o : Option X) → is_none o ≡ true → o ≡ None
-none_is None e = refl
-none_is (Some x) e = absurd cc
 
 abbrev is_effect_kind : Kind → Bool
 is_effect_kind kinds.Word = true

@@ -1,6 +1,6 @@
 -- The forced frames of a method are formed: the first one, those of its map, and what each instruction leaves.
 use Rattle.std.proofs.Common.{◌≡◌, ℕ, ◌+◌, ◌-◌, Bool, true, false, cond, if◌then◌else◌, List, [], ◌∷◌, ◌++◌, length, map, replicate, Option, Some, None, refl, sym, ap, ◌∙◌, subst, ◌⊎◌, inl, inr}
-use Rattle.std.specs.Prelude.{◌&&◌, MatchOption, eqb}
+use Rattle.std.specs.Prelude.{MatchOption, eqb}
 use Rattle.std.specs.List.{AllZip, list_all}
 use Rattle.std.proofs.lemmas.Bool.{and_parts}
 use Rattle.jv_table.specs.declared.class_tables.FrameGroup.{FrameGroup}
@@ -25,6 +25,7 @@ use Rattle.jv_frames.specs.Maps.{plain_types, plain_type, IsNumbered, object, un
 use Rattle.jv_typing.specs.Typing.{in_order, StoresWhere}
 use Rattle.jv_typing.specs.Transitions.{AreReplaced}
 use Rattle.jv_typing.specs.TypeSafe.{site_at, AreMapsOf, IsForced, first, by_map, left}
+use Rattle.jv_typing_laws.proofs.Tests.{both_true}
 use Rattle.jv_typing_laws.specs.Formed.{holds_references, are_formed, IsFormed}
 use Rattle.jv_typing_laws.proofs.FormedWords.{join, front, behind, in_words_formed, tops_formed, descs_hold, ref_vtype_holds, cells_begin, whole_formed, whole_begins, order_holds, replaced_formed, stored_formed}
 use Rattle.jv_typing_laws.proofs.CellSteps.{IsCellStep, IsStepOf, by_cells, by_replacing, by_moving, step_of}
@@ -61,10 +62,6 @@ step_formed insn frame after (by_moving max_stack takes reads store inc m) f =
     record { locals = ap (are_formed false) m.locals ∙ f.locals; stack = ap (are_formed false) m.stack ∙ join false m.below words below moved }
 
 -- ---- types that hold references
-
-both_true : (a b : Bool) → a ≡ true → b ≡ true → (a && b) ≡ true
-both_true true b e f = f
-both_true false b e f = absurd cc
 
 all_join : (xs ys : List VType) → list_all holds_references xs ≡ true → list_all holds_references ys ≡ true → list_all holds_references (xs ++ ys) ≡ true
 all_join [] ys h k = k

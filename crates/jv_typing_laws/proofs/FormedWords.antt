@@ -17,6 +17,7 @@ use Rattle.jv_frames.specs.Types.{type_words, in_words, ref_vtype, items_vtype, 
 use Rattle.jv_typing.specs.Transitions.{IsReplaced, AreReplaced}
 use Rattle.jv_typing.specs.Typing.{is_top, halved, are_whole, in_order, AreStored}
 use Rattle.jv_typing.proofs.TypingOnce.{is_number, are_numbers}
+use Rattle.jv_typing_laws.proofs.Tests.{both_true, not_true}
 use Rattle.jv_typing_laws.proofs.OneFrame.{is_uninit}
 use Rattle.jv_typing_laws.specs.Formed.{holds_references, are_formed}
 
@@ -35,17 +36,9 @@ head_parts second type types f =
     let inner = and_parts (fits_behind second type) (holds_references type) outer.0 in
     record { behind = inner.0; items = inner.1; rest = outer.1 }
 
-both_true : (a b : Bool) → a ≡ true → b ≡ true → (a && b) ≡ true
-both_true true b e f = f
-both_true false b e f = absurd cc
-
 pub with_head : (second : Bool) (type : VType) (types : List VType) → fits_behind second type ≡ true → holds_references type ≡ true → are_formed (is_wide type) types ≡ true → are_formed second (type ∷ types) ≡ true
 with_head second type types b i r =
     both_true (fits_behind second type && holds_references type) (are_formed (is_wide type) types) (both_true (fits_behind second type) (holds_references type) b i) r
-
-not_true : (b : Bool) → not b ≡ true → b ≡ false
-not_true true e = absurd cc
-not_true false e = refl
 
 -- ---- joined and parted
 

@@ -23,6 +23,7 @@ use Rattle.jv_insn.specs.Leaving.{Place, AtLocal, AtStack, Words, words_taken, w
 use Rattle.jv_insn.proofs.HeldCells.{held_kinds}
 use Rattle.jv_insn.proofs.Leaving.{below_left, stays_left, given_anew, stands_after, word_left, word_given}
 use Rattle.jv_insn.proofs.Tables.{row_passes, row_cells_given}
+use Rattle.jv_typing_laws.proofs.Tests.{where_true, not_true}
 use Rattle.jv_typing_laws.proofs.KindsOfWords.{held_local}
 use Rattle.jv_typing_laws.proofs.CellSteps.{IsCellStep}
 
@@ -175,14 +176,6 @@ all_load_rows : list_all load_row opcode_rows ≡ true
 unfolding opcode_rows
 all_load_rows = refl
 
-where_true : (b c : Bool) → b ≡ true → (not b || c) ≡ true → c ≡ true
-where_true true c t h = h
-where_true false c t h = absurd cc
-
-not_true : (b : Bool) → not b ≡ true → b ≡ false
-not_true true e = absurd cc
-not_true false e = refl
-
 single_is : (cells : List Cell) → is_single cells ≡ true → (cell : Cell) × (cells ≡ cell ∷ [])
 single_is [] e = absurd cc
 single_is (cell ∷ []) e = (cell, refl)
@@ -297,9 +290,6 @@ inc_reads insn i =
 pub inc_says : (insn : Insn) (frame : Frame) → is_store insn.op ≡ false → eqb insn.op IINC ≡ true → All (LocalHolds frame) (effect_of insn).reads → SaysOnly (kinds_after false frame.locals) (kinds_left insn (kinds_of frame)).locals
 inc_says insn frame s i reads local kind at = by (is_written insn local) refl
   where
-    own : ℕ
-    own = local_of insn.op insn.arg
-
     by : (b : Bool) → is_written insn local ≡ b → (kind ≡ Unknown) ⊎ (slice_get (kinds_left insn (kinds_of frame)).locals local ≡ Some kind)
     by false w = inr (stays insn (kinds_of frame) local kind w at)
     by true w =

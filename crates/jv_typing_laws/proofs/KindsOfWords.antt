@@ -1,5 +1,5 @@
 -- The kinds of words: those of joined words, of what may stand for others, and what says no more than others.
-use Rattle.std.proofs.Common.{◌≡◌, ℕ, zero, suc, ◌+◌, Bool, true, false, not, List, [], ◌∷◌, ◌++◌, length, take, drop, Some, slice_get, refl, sym, ap, ◌∙◌, subst, ◌⊎◌, inl, inr, arith}
+use Rattle.std.proofs.Common.{◌≡◌, ℕ, zero, suc, ◌+◌, Bool, true, false, List, [], ◌∷◌, ◌++◌, length, take, drop, Some, slice_get, refl, sym, ap, ◌∙◌, subst, ◌⊎◌, inl, inr, arith}
 use Rattle.std.specs.List.{AllZip}
 use Rattle.jv_table.specs.declared.code_tables.Cell.{Cell}
 use Rattle.jv_table.specs.declared.code_tables.Cell.TheVariants.{Int, Float, Long, Double, Ref, Null}
@@ -12,18 +12,15 @@ use Rattle.jv_frames.specs.Assignable.{IsAssignable, same, to_top, of_null, of_c
 use Rattle.jv_frames.proofs.Arrays.{is_object-Array}
 use Rattle.jv_typing.specs.Typing.{is_top}
 use Rattle.jv_typing.specs.Transitions.{IsReplaced, AreReplaced}
+use Rattle.jv_typing_laws.proofs.Tests.{not_true}
 use Rattle.jv_typing_laws.specs.Formed.{are_formed}
-use Rattle.jv_typing_laws.proofs.OneFrame.{is_uninit}
+use Rattle.jv_typing_laws.proofs.OneFrame.{is_uninit, same_head}
 use Rattle.jv_typing_laws.proofs.FormedWords.{head_parts, fits_behind, MayReplace, uninit_no_second, uninit_narrow}
 
 -- ---- joined words
 
-false_of : (b : Bool) → not b ≡ true → b ≡ false
-false_of true e = absurd cc
-false_of false e = refl
-
 pub kinds_join : (second : Bool) (xs ys : List VType) → are_formed second xs ≡ true → kinds_after second (xs ++ ys) ≡ kinds_after second xs ++ kinds_after false ys
-kinds_join second [] ys f = ap (λ (b : Bool). kinds_after b ys) (false_of second f)
+kinds_join second [] ys f = ap (λ (b : Bool). kinds_after b ys) (not_true second f)
 kinds_join second (x ∷ xs) ys f = ap (λ (ks : List WordKind). kind_of second x ∷ ks) (kinds_join (is_wide x) xs ys (head_parts second x xs f).rest)
 
 pub kinds_long : (second : Bool) (xs : List VType) → length (kinds_after second xs) ≡ length xs
@@ -235,9 +232,6 @@ all_replaced_less second old new (x ∷ xs) (y ∷ ys) may f r =
 
 -- ---- a local variable that holds a cell
 
-head_is : (t u : VType) (ts us : List VType) → t ∷ ts ≡ u ∷ us → t ≡ u
-head_is t u ts us e = cc
-
 second_is : (t u v x : VType) → t ∷ v ∷ [] ≡ u ∷ x ∷ [] → v ≡ x
 second_is t u v x e = cc
 
@@ -271,14 +265,14 @@ held_first second [] cell n kind h at = absurd (no_words cell (nothing cell h))
     nothing Double h = h
     nothing Ref h = h
     nothing Null h = h
-held_first second (t ∷ ts) Int n kind h at = one_kind second t types.Integer ts Word kind n (head_is t types.Integer [] [] h) refl at
-held_first second (t ∷ ts) Float n kind h at = one_kind second t types.Float ts Word kind n (head_is t types.Float [] [] h) refl at
+held_first second (t ∷ ts) Int n kind h at = one_kind second t types.Integer ts Word kind n (same_head t types.Integer [] [] h) refl at
+held_first second (t ∷ ts) Float n kind h at = one_kind second t types.Float ts Word kind n (same_head t types.Float [] [] h) refl at
 held_first second (t ∷ []) Long n kind h at = absurd cc
-held_first second (t ∷ u ∷ ts) Long n kind h at = two_kinds second t types.Long u ts kind n (head_is t types.Long (u ∷ []) (Top ∷ []) h) (second_is t types.Long u Top h) refl refl at
+held_first second (t ∷ u ∷ ts) Long n kind h at = two_kinds second t types.Long u ts kind n (same_head t types.Long (u ∷ []) (Top ∷ []) h) (second_is t types.Long u Top h) refl refl at
 held_first second (t ∷ []) Double n kind h at = absurd cc
-held_first second (t ∷ u ∷ ts) Double n kind h at = two_kinds second t types.Double u ts kind n (head_is t types.Double (u ∷ []) (Top ∷ []) h) (second_is t types.Double u Top h) refl refl at
-held_first second (t ∷ ts) Ref n kind h at = one_kind second t h.0 ts Reference kind n (head_is t h.0 [] [] h.1.0) (reference_kind second h.0 h.1.1) at
-held_first second (t ∷ ts) Null n kind h at = one_kind second t types.Null ts Reference kind n (head_is t types.Null [] [] h) refl at
+held_first second (t ∷ u ∷ ts) Double n kind h at = two_kinds second t types.Double u ts kind n (same_head t types.Double (u ∷ []) (Top ∷ []) h) (second_is t types.Double u Top h) refl refl at
+held_first second (t ∷ ts) Ref n kind h at = one_kind second t h.0 ts Reference kind n (same_head t h.0 [] [] h.1.0) (reference_kind second h.0 h.1.1) at
+held_first second (t ∷ ts) Null n kind h at = one_kind second t types.Null ts Reference kind n (same_head t types.Null [] [] h) refl at
 
 pub held_local : (second : Bool) (locals : List VType) (cell : Cell) (local n place : ℕ) (kind : WordKind) → place ≡ local + n → HoldsCell cell (take (length (cell_words cell)) (drop local locals)) → slice_get (cell_words cell) n ≡ Some kind
     → slice_get (kinds_after second locals) place ≡ Some kind

@@ -1,3 +1,4 @@
+pub mod Tests
 pub mod OneFrame
 pub mod Rows
 pub mod Forced

@@ -130,7 +130,7 @@ pub initialised_uninit : (w : List Shape) (site : Site) (class : RefType) (befor
 initialised_uninit w site class before after (this _ _ current name b t c p a) = ap is_uninit b
 initialised_uninit w site class before after (made _ _ pc insn name b i o g c a) = ap is_uninit b
 
-same_head : (x y : VType) (xs ys : List VType) → x ∷ xs ≡ y ∷ ys → x ≡ y
+pub same_head : (x y : VType) (xs ys : List VType) → x ∷ xs ≡ y ∷ ys → x ≡ y
 same_head x y xs ys e = cc
 
 same_name : (m n : List ℕ) (class other : RefType) → class ≡ refs.Class m → other ≡ refs.Class n → class ≡ other → m ≡ n

@@ -34,7 +34,9 @@ use Rattle.jv_typing.specs.Rules.{ref_rules}
 use Rattle.jv_typing.specs.Typing.{is_top}
 use Rattle.jv_typing.specs.References.{Site, HasRuleTyping, IsReturnTyping, IsVoidTyping}
 use Rattle.jv_typing.specs.Steps.{StepTyping, words, references}
-use Rattle.jv_typing_laws.proofs.FormedWords.{ref_vtype_reference}
+use Rattle.jv_typing_laws.proofs.Tests.{not_true}
+use Rattle.jv_typing_laws.proofs.FormedWords.{ref_vtype_reference, reference_no_top}
+use Rattle.jv_typing_laws.proofs.OneFrame.{same_head}
 use Rattle.jv_typing_laws.proofs.KindsOfWords.{plain_same, to_object}
 use Rattle.jv_typing_laws.proofs.CellSteps.{takes_of}
 
@@ -78,19 +80,6 @@ desc_cell_of (descs.Prim prims.Long) = refl
 desc_cell_of (descs.Ref type) = reference_cell (ref_vtype type) (ref_vtype_reference type)
 
 -- no word of a descriptor's type is Top
-reference_no_top : (type : VType) → is_reference type ≡ true → is_top type ≡ false
-reference_no_top types.Top r = absurd cc
-reference_no_top types.Integer r = refl
-reference_no_top types.Float r = refl
-reference_no_top types.Long r = refl
-reference_no_top types.Double r = refl
-reference_no_top types.Null r = refl
-reference_no_top types.UninitThis r = refl
-reference_no_top (types.Uninit pc) r = refl
-reference_no_top (types.Class name) r = refl
-reference_no_top (types.PrimArray prim) r = refl
-reference_no_top (types.Array' shape items) r = refl
-
 desc_no_top : (desc : Desc) → is_top (desc_vtype desc) ≡ false
 desc_no_top (descs.Prim prims.Boolean) = refl
 desc_no_top (descs.Prim prims.Char) = refl
@@ -100,7 +89,7 @@ desc_no_top (descs.Prim prims.Byte) = refl
 desc_no_top (descs.Prim prims.Short) = refl
 desc_no_top (descs.Prim prims.Int) = refl
 desc_no_top (descs.Prim prims.Long) = refl
-desc_no_top (descs.Ref type) = reference_no_top (ref_vtype type) (ref_vtype_reference type)
+desc_no_top (descs.Ref type) = not_true (is_top (ref_vtype type)) (reference_no_top (ref_vtype type) (ref_vtype_reference type))
 
 object_cell : (type : VType) → is_object type ≡ true → cell_of type ≡ Ref
 object_cell types.Top o = refl
@@ -147,10 +136,6 @@ all_returns : list_all return_rule ref_rules ≡ true
 unfolding opcode_rows
 all_returns = refl
 
-not_true : (b : Bool) → not b ≡ true → b ≡ false
-not_true true e = absurd cc
-not_true false e = refl
-
 record IsValue (cells : List Cell) : Type 0 where
   cell : Cell
   are : cells ≡ cell ∷ []
@@ -166,9 +151,6 @@ value_taken insn None e h v = absurd h
 value_taken insn (Some row) e h v =
     let parts = and_parts (not (decides_cells row.form)) (is_value row.takes) v in
     subst IsValue (sym (row_cells_taken insn.op insn.arg row e h (not_true (decides_cells row.form) parts.0))) (value_is row.takes parts.1)
-
-same_head : (x y : VType) (xs ys : List VType) → x ∷ xs ≡ y ∷ ys → x ≡ y
-same_head x y xs ys e = cc
 
 head_of : (own type : VType) (more rest first behind : List VType) → first ≡ own ∷ more → first ++ behind ≡ type ∷ rest → own ≡ type
 head_of own type more rest first behind is t = same_head own type (more ++ behind) rest (sym (ap (λ (l : List VType). l ++ behind) is) ∙ t)
