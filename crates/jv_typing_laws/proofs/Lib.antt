@@ -11,3 +11,4 @@ pub mod KindsStored
 pub mod KindsSaid
 pub mod Returns
 pub mod KindSafety
+pub mod Failing

@@ -13,4 +13,6 @@ pub use kind_safe::{
     assignable_frames_say_no_more, type_safe_is_kind_safe, typed_steps_leave_kinds,
 };
 pub use one_frame::{initial_frame_is_one, typing_has_one_frame};
-pub use one_table::{forced_frame_is_one, map_frames_rise, table_is_forced, table_is_one};
+pub use one_table::{
+    forced_frame_is_one, map_frames_rise, table_fails_nowhere, table_is_forced, table_is_one,
+};

@@ -10,7 +10,7 @@ ghost use Rattle.jv_pool.specs.declared.item.PoolItem.{PoolItem};
 ghost use Rattle.jv_attr.specs.declared.frame.MapFrame.{MapFrame};
 ghost use Rattle.jv_frames.specs.Maps.{AreMapFrames};
 ghost use Rattle.jv_types.specs.declared.frames.VType.{VType};
-ghost use Rattle.jv_typing.specs.TypeSafe.{IsTypeSafe, IsForced};
+ghost use Rattle.jv_typing.specs.TypeSafe.{IsTypeSafe, IsForced, FailsAt};
 
 /// At most one frame is forced at an offset.
 pub fn forced_frame_is_one()
@@ -30,4 +30,9 @@ pub fn table_is_one()
 /// The frames of a stack map stand at rising offsets (JVMS 4.7.4).
 pub fn map_frames_rise()
     ensures { (pool : List PoolItem) (body : Body) (base : ℕ) (before : List VType) (written : List MapFrame) (rows : List (ℕ × Frame)) → AreMapFrames pool body base before written rows → IsTrue (rises_from base rows) }
+{}
+
+/// A method with a table fails at no offset.
+pub fn table_fails_nowhere()
+    ensures { (w : List Shape) (method : MethodId) (body : Body) (maps frames : List (ℕ × Frame)) (pc : ℕ) → IsTypeSafe w method body maps frames → FailsAt w method body maps pc → ⊥ }
 {}
