@@ -20,6 +20,14 @@ pub struct Shuffling {
     pub order: &'static [u8],
 }
 
+/// So many words from the top, and those that stand there afterwards.
+fn by_order(count: u8, order: &'static [u8]) -> Shuffling
+    ensures count { result.count ≡ count }
+    ensures order { result.order.now ≡ order.now }
+{
+    Shuffling { count, order }
+}
+
 /// What an instruction moves: pop, pop2, dup, dup_x1, dup_x2, dup2, dup2_x1, dup2_x2 and swap move words.
 fn moved(op: u8) -> Option<Shuffling>
     ensures found { IfSome result (IsShuffleOf op) }
@@ -34,42 +42,15 @@ fn moved(op: u8) -> Option<Shuffling>
     static DUP2_X2: [u8; 6] = [2, 3, 0, 1, 2, 3];
     static SWAP: [u8; 2] = [1, 0];
     match op {
-        ops::POP => Some(Shuffling {
-            count: 1,
-            order: &NONE,
-        }),
-        ops::POP2 => Some(Shuffling {
-            count: 2,
-            order: &NONE,
-        }),
-        ops::DUP => Some(Shuffling {
-            count: 1,
-            order: &DUP,
-        }),
-        ops::DUP_X1 => Some(Shuffling {
-            count: 2,
-            order: &DUP_X1,
-        }),
-        ops::DUP_X2 => Some(Shuffling {
-            count: 3,
-            order: &DUP_X2,
-        }),
-        ops::DUP2 => Some(Shuffling {
-            count: 2,
-            order: &DUP2,
-        }),
-        ops::DUP2_X1 => Some(Shuffling {
-            count: 3,
-            order: &DUP2_X1,
-        }),
-        ops::DUP2_X2 => Some(Shuffling {
-            count: 4,
-            order: &DUP2_X2,
-        }),
-        ops::SWAP => Some(Shuffling {
-            count: 2,
-            order: &SWAP,
-        }),
+        ops::POP => Some(by_order(1, &NONE)),
+        ops::POP2 => Some(by_order(2, &NONE)),
+        ops::DUP => Some(by_order(1, &DUP)),
+        ops::DUP_X1 => Some(by_order(2, &DUP_X1)),
+        ops::DUP_X2 => Some(by_order(3, &DUP_X2)),
+        ops::DUP2 => Some(by_order(2, &DUP2)),
+        ops::DUP2_X1 => Some(by_order(3, &DUP2_X1)),
+        ops::DUP2_X2 => Some(by_order(4, &DUP2_X2)),
+        ops::SWAP => Some(by_order(2, &SWAP)),
         _ => None,
     }
 }

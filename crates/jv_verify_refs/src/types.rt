@@ -62,7 +62,7 @@ pub fn prim_type(prim: Prim) -> VType
     }
 }
 
-/// The type of an array of any kind.
+/// Whether a type is that of an array.
 pub fn is_array(of: &VType) -> bool
     ensures { result ≡ is_array of.now }
 {
