@@ -1,0 +1,11 @@
+mod Each
+mod Handlers
+mod Targets
+mod Stepping
+mod Forcing
+mod Asked
+mod Exact
+mod Tables
+mod Ready
+mod OneCode
+mod Causes

@@ -1,0 +1,29 @@
+-- A frame at the targets of an instruction, and everywhere where it goes.
+use Rattle.std.proofs.Common.{◌≡◌, ℕ, List, ◌∷◌, ◌⊎◌, inl, inr, subst}
+use Rattle.std.specs.Prelude.{◌↔◌, Contains}
+use Rattle.jv_types.specs.Bodies.{arg_targets}
+use Rattle.jv_types.specs.declared.shapes.Shape.{Shape}
+use Rattle.jv_types.specs.declared.instruction.Insn.{Insn}
+use Rattle.jv_types.specs.declared.body.Body.{Body}
+use Rattle.jv_types.specs.declared.frames.Frame.{Frame}
+use Rattle.jv_typing.specs.TypeSafe.{FitsThere, FitsWhereItGoes}
+use Rattle.jv_verify.specs.Steps.Checking.{StandsIn, FitsAtEach, FitsNext, SatisfiesAll}
+use Rattle.jv_verify.proofs.Each.{first_or_later, is_first, is_later}
+
+-- the default first, and then the others
+pub later_decide : (w : List Shape) (rows : List (ℕ × Frame)) (default : ℕ) (targets : List ℕ) (frame : Frame) → FitsThere w (StandsIn rows) default frame
+    → FitsAtEach w rows targets frame ↔ FitsAtEach w rows (default ∷ targets) frame
+later_decide w rows default targets frame first = (
+  λ fits target among. by_place target (first_or_later default targets target among) fits,
+  λ fits target among. fits target (is_later default targets target among),
+)
+  where
+    by_place : (target : ℕ) → (default ≡ target) ⊎ Contains targets target → FitsAtEach w rows targets frame → FitsThere w (StandsIn rows) target frame
+    by_place target (inl e) fits = subst (λ (t : ℕ). FitsThere w (StandsIn rows) t frame) e first
+    by_place target (inr more) fits = fits target more
+
+-- the handlers decide where the others fit
+pub handlers_decide : (w : List Shape) (body : Body) (rows : List (ℕ × Frame)) (pc : ℕ) (insn : Insn) (frame after : Frame) → FitsNext w body (StandsIn rows) pc insn.op after
+    → FitsAtEach w rows (arg_targets insn.arg) after → SatisfiesAll w body.handlers (StandsIn rows) pc frame ↔ FitsWhereItGoes w body (StandsIn rows) pc insn frame after
+handlers_decide w body rows pc insn frame after next jumps =
+    (λ all. record { falls = next; jumps = jumps; throws = all }, λ goes. goes.throws)
