@@ -11,13 +11,14 @@ use Rattle.jv_types.specs.declared.shapes.Shape.{Shape}
 use Rattle.jv_world.specs.Worlds.{IsNamed, IsSubclass}
 use Rattle.jv_resolve.specs.declared.refusal.ResolveRefusal.{ResolveRefusal}
 use Rattle.jv_resolve.specs.declared.refusal.ResolveRefusal.TheVariants.{WrongKind, NotFound, NoAccess, Memory}
-use Rattle.jv_resolve.specs.Members.{IsPublic}
+use Rattle.jv_resolve.specs.Members.{IsPackagePrivate}
 use Rattle.jv_resolve.specs.Access.{HasAccess, IsClassAccessible, IsFieldAccessible, IsInLine, IsMethodAccessible, IsProtectedAccess, IsPublicClass, NamesInLine}
 use Rattle.jv_resolve.specs.Packages.{AreInOnePackage, package_of}
 use Rattle.jv_resolve.specs.References.{BeginsAt}
 use Rattle.jv_resolve.specs.Refusals.{HasFieldCause, HasInterfaceMethodCause, HasMethodCause}
 use Rattle.jv_resolve.proofs.Hierarchy.{named_here}
 use Rattle.jv_two_worlds.specs.Renumbering.{StandsIn, field_to, method_to}
+use Rattle.jv_two_worlds.specs.SameClasses.{HaveSameAccess}
 use Rattle.jv_two_worlds.proofs.Classes.{shape_back, named_into, named_only, one_number}
 use Rattle.jv_two_worlds.proofs.Supertypes.{subclass_into, subclass_exact}
 use Rattle.jv_two_worlds.proofs.Members.{declares_field_here, field_into, field_back, method_into, method_back}
@@ -42,6 +43,12 @@ either_iff {A} {B} {C} {D} f g = (into, back)
 both_iff : {A B C D : Type 0} → A ↔ B → C ↔ D → (A × C) ↔ (B × D)
 both_iff f g = (λ p. (f.0 p.0, g.0 p.1), λ q. (f.1 q.0, g.1 q.1))
 
+pub package_private : (flags other : Access) → HaveSameAccess flags other → IsPackagePrivate flags ↔ IsPackagePrivate other
+package_private flags other same = (
+  λ p. ((λ q. p.0 (same.public.1 q)), (λ q. p.1 (same.protected.1 q)), λ q. p.2 (same.private.1 q)),
+  λ q. ((λ p. q.0 (same.public.0 p)), (λ p. q.1 (same.protected.0 p)), λ p. q.2 (same.private.0 p)),
+)
+
 module _ {w v : List Shape} {to : ℕ → ℕ} (inside : StandsIn w v to) where
   -- ---- packages
 
@@ -64,8 +71,8 @@ module _ {w v : List Shape} {to : ℕ → ℕ} (inside : StandsIn w v to) where
 
   public_class : (c : ℕ) → c < length w → IsPublicClass w c ↔ IsPublicClass v (to c)
   public_class c here = (
-    λ p. let r = inside.shapes c p.0 p.1 in (r.0, r.1, subst IsPublic r.2.flags p.2),
-    λ q. let r = shape_back inside c q.0 here q.1 in (r.0, r.1, subst IsPublic (sym r.2.flags) q.2),
+    λ p. let r = inside.shapes c p.0 p.1 in (r.0, r.1, r.2.public.0 p.2),
+    λ q. let r = shape_back inside c q.0 here q.1 in (r.0, r.1, r.2.public.1 q.2),
   )
 
   pub class_access : (from c : ℕ) → from < length w → c < length w → IsClassAccessible w from c ↔ IsClassAccessible v (to from) (to c)
@@ -104,21 +111,23 @@ module _ {w v : List Shape} {to : ℕ → ℕ} (inside : StandsIn w v to) where
   subclasses : (c d : ℕ) → c < length w → d < length w → IsSubclass w c d ↔ IsSubclass v (to c) (to d)
   subclasses c d here there = (λ p. subclass_into inside c d p, λ q. subclass_exact inside c d here there q)
 
-  protected_access : {L M : Type 0} → L ↔ M → (from c : ℕ) (flags : Access) → from < length w → c < length w → IsProtectedAccess w from L c flags ↔ IsProtectedAccess v (to from) M (to c) flags
-  protected_access line from c flags here there = either_iff (one_package from c here there) (both_iff (subclasses from c here there) (either_iff same_iff line))
+  protected_access : {L M : Type 0} → L ↔ M → (from c : ℕ) (flags other : Access) → HaveSameAccess flags other → from < length w → c < length w
+      → IsProtectedAccess w from L c flags ↔ IsProtectedAccess v (to from) M (to c) other
+  protected_access line from c flags other same here there = either_iff (one_package from c here there) (both_iff (subclasses from c here there) (either_iff same.static line))
 
-  has_access : {L M : Type 0} → L ↔ M → (from c : ℕ) (flags : Access) → from < length w → c < length w → HasAccess w from L c flags ↔ HasAccess v (to from) M (to c) flags
-  has_access line from c flags here there =
-      either_iff same_iff
-      (either_iff (both_iff same_iff (protected_access line from c flags here there))
-      (either_iff (both_iff same_iff (one_package from c here there)) (both_iff same_iff (one_class from c here there))))
+  has_access : {L M : Type 0} → L ↔ M → (from c : ℕ) (flags other : Access) → HaveSameAccess flags other → from < length w → c < length w
+      → HasAccess w from L c flags ↔ HasAccess v (to from) M (to c) other
+  has_access line from c flags other same here there =
+      either_iff same.public
+      (either_iff (both_iff same.protected (protected_access line from c flags other same here there))
+      (either_iff (both_iff (package_private flags other same) (one_package from c here there)) (both_iff same.private (one_class from c here there))))
 
   pub field_access : (from k : ℕ) (r : FieldRef) (f : FieldId) → from < length w → f.class.number < length w → IsNamed w k r.class
       → IsFieldAccessible w from r f ↔ IsFieldAccessible v (to from) r (field_to to f)
   field_access from k r f here there named =
       let line = in_line from k r.class here named in (
-        λ p. (p.0, field_into inside f p.0 p.1, (has_access line from f.class.number p.0.flags here there).0 p.2),
-        λ q. (q.0, field_back inside f q.0 there q.1, (has_access line from f.class.number q.0.flags here there).1 q.2),
+        λ p. let y = field_into inside f p.0 p.1 in (y.0, y.1, (has_access line from f.class.number p.0.flags y.0.flags y.2.access here there).0 p.2),
+        λ q. let x = field_back inside f q.0 there q.1 in (x.0, x.1, (has_access line from f.class.number x.0.flags q.0.flags x.2.access here there).1 q.2),
       )
 
   pub method_access : (from k : ℕ) (r : MethodRef) (m : MethodId) → from < length w → m.class.number < length w → BeginsAt w r.class k
@@ -126,8 +135,8 @@ module _ {w v : List Shape} {to : ℕ → ℕ} (inside : StandsIn w v to) where
   method_access from k r m here there begins =
       let line = names_in_line from k r.class here begins in
       either_iff same_iff (
-        λ p. (p.0, method_into inside m p.0 p.1, (has_access line from m.class.number p.0.flags here there).0 p.2),
-        λ q. (q.0, method_back inside m q.0 there q.1, (has_access line from m.class.number q.0.flags here there).1 q.2),
+        λ p. let y = method_into inside m p.0 p.1 in (y.0, y.1, (has_access line from m.class.number p.0.flags y.0.flags y.2.access here there).0 p.2),
+        λ q. let x = method_back inside m q.0 there q.1 in (x.0, x.1, (has_access line from m.class.number x.0.flags q.0.flags x.2.access here there).1 q.2),
       )
 
   -- ---- refusals

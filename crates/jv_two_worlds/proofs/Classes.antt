@@ -1,16 +1,16 @@
 -- Classes of a world that stand in another one: their numbers, names and kinds, and that Object is there.
 use Rattle.std.proofs.Common.{◌≡◌, ℕ, zero, suc, ◌<◌, ◌⊎◌, Bool, true, false, List, [], ◌∷◌, Option, Some, None, length, nat_eq, Contains, slice_get, refl, sym, ap, ◌∙◌, subst, inl, inr, ⊎_elim, arith}
-use Rattle.std.specs.Prelude.{MatchOption, bit_and}
+use Rattle.std.specs.Prelude.{MatchOption}
 use Rattle.std.specs.Cmp.Lexicographic.{pointwise, bytes_decides}
 use Rattle.std.proofs.lemmas.Bool.{false≢true}
 use Rattle.std.proofs.lemmas.Option.{same_Some}
-use Rattle.jv_types.specs.declared.access.Access.{Access}
 use Rattle.jv_types.specs.declared.shapes.Shape.{Shape}
 use Rattle.jv_world.specs.Worlds.{object_name, HasSuperclass, IsFinal, IsInterface, IsNamed, IsWorld}
 use Rattle.jv_resolve.proofs.Hierarchy.{super_here}
 use Rattle.jv_resolve.proofs.PlacesLemmas.{among_from_get}
 use Rattle.jv_resolve.specs.Members.{IsInterfaceClass}
-use Rattle.jv_two_worlds.specs.Renumbering.{IsSameClass, StandsIn}
+use Rattle.jv_two_worlds.specs.Renumbering.{StandsIn}
+use Rattle.jv_two_worlds.specs.SameClasses.{IsSameClass}
 
 pub shape_of : (w : List Shape) (c : ℕ) → c < length w → (s : Shape) × (slice_get w c ≡ Some s)
 shape_of [] c lt = absurd (omega (arith, lt))
@@ -95,7 +95,7 @@ module _ {w v : List Shape} {to : ℕ → ℕ} (inside : StandsIn w v to) where
       inside.world.numbered.distinct c d own.0.name named (named_back d own.0.name there (subst (λ (x : ℕ). IsNamed v x own.0.name) e (named_into c own.0.name named)))
 
   pub interface_into : (c : ℕ) → IsInterfaceClass w c → IsInterfaceClass v (to c)
-  interface_into c p = let r = inside.shapes c p.0 p.1 in (r.0, r.1, subst (λ (a : Access). bit_and a.0 512 ≡ 512) r.2.flags p.2)
+  interface_into c p = let r = inside.shapes c p.0 p.1 in (r.0, r.1, r.2.interface.0 p.2)
 
   pub interface_back : (c : ℕ) → c < length w → IsInterfaceClass v (to c) → IsInterfaceClass w c
-  interface_back c here p = let r = shape_back c p.0 here p.1 in (r.0, r.1, subst (λ (a : Access). bit_and a.0 512 ≡ 512) (sym r.2.flags) p.2)
+  interface_back c here p = let r = shape_back c p.0 here p.1 in (r.0, r.1, r.2.interface.1 p.2)

@@ -6,7 +6,8 @@ use Rattle.jv_world.specs.Worlds.{IsNamed, Sub}
 use Rattle.jv_resolve.specs.DepthFirst.{direct_supers, IsFirst, IsFirstBy, IsFirstLeading, IsFirstWay}
 use Rattle.jv_resolve.proofs.Hierarchy.{named_here, sub_here}
 use Rattle.jv_resolve.proofs.PlacesLemmas.{among_from_get}
-use Rattle.jv_two_worlds.specs.Renumbering.{IsSameClass, StandsIn}
+use Rattle.jv_two_worlds.specs.Renumbering.{StandsIn}
+use Rattle.jv_two_worlds.specs.SameClasses.{IsSameClass}
 use Rattle.jv_two_worlds.proofs.Classes.{there, shape_back, named_into, named_only}
 use Rattle.jv_two_worlds.proofs.Supertypes.{sub_into, sub_back}
 

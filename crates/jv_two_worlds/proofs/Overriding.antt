@@ -7,51 +7,56 @@ use Rattle.jv_types.specs.declared.shapes.Shape.{Shape}
 use Rattle.jv_resolve.specs.Overriding.{IsOpenTo, Overrides, OverridesDirectly, same, direct, through}
 use Rattle.jv_resolve.proofs.Hierarchy.{sub_here}
 use Rattle.jv_two_worlds.specs.Renumbering.{StandsIn, method_to}
+use Rattle.jv_two_worlds.specs.SameClasses.{HaveSameAccess}
 use Rattle.jv_two_worlds.proofs.Supertypes.{sub_into, sub_back, sub_exact}
 use Rattle.jv_two_worlds.proofs.Members.{method_in, method_at, one_member, method_into, method_back}
-use Rattle.jv_two_worlds.proofs.Accessing.{one_package}
+use Rattle.jv_two_worlds.proofs.Accessing.{one_package, package_private}
 
 module _ {w v : List Shape} {to : ℕ → ℕ} (inside : StandsIn w v to) where
-  open_into : (a b : ℕ) (flags : Access) → a < length w → b < length w → IsOpenTo w a b flags → IsOpenTo v (to a) (to b) flags
-  open_into a b flags here there (inl p) = inl p
-  open_into a b flags here there (inr (inl p)) = inr (inl p)
-  open_into a b flags here there (inr (inr p)) = inr (inr (p.0, (one_package inside a b here there).0 p.1))
+  open_into : (a b : ℕ) (flags other : Access) → HaveSameAccess flags other → a < length w → b < length w → IsOpenTo w a b flags → IsOpenTo v (to a) (to b) other
+  open_into a b flags other alike here there (inl p) = inl (alike.public.0 p)
+  open_into a b flags other alike here there (inr (inl p)) = inr (inl (alike.protected.0 p))
+  open_into a b flags other alike here there (inr (inr p)) = inr (inr ((package_private flags other alike).0 p.0, (one_package inside a b here there).0 p.1))
 
-  open_back : (a b : ℕ) (flags : Access) → a < length w → b < length w → IsOpenTo v (to a) (to b) flags → IsOpenTo w a b flags
-  open_back a b flags here there (inl q) = inl q
-  open_back a b flags here there (inr (inl q)) = inr (inl q)
-  open_back a b flags here there (inr (inr q)) = inr (inr (q.0, (one_package inside a b here there).1 q.1))
+  open_back : (a b : ℕ) (flags other : Access) → HaveSameAccess flags other → a < length w → b < length w → IsOpenTo v (to a) (to b) other → IsOpenTo w a b flags
+  open_back a b flags other alike here there (inl q) = inl (alike.public.1 q)
+  open_back a b flags other alike here there (inr (inl q)) = inr (inl (alike.protected.1 q))
+  open_back a b flags other alike here there (inr (inr q)) = inr (inr ((package_private flags other alike).1 q.0, (one_package inside a b here there).1 q.1))
 
   pub direct_into : (a b : MethodId) → OverridesDirectly w a b → OverridesDirectly v (method_to to a) (method_to to b)
   direct_into a b p =
-      let here : a.class.number < length w = slice_get_within w a.class.number p.place.0 p.place.1 in record {
-        shape = p.shape;
-        other = p.other;
-        place = method_into inside a p.shape p.place;
-        other_place = method_into inside b p.other p.other_place;
+      let here : a.class.number < length w = slice_get_within w a.class.number p.place.0 p.place.1 in
+      let x = method_into inside a p.shape p.place in
+      let y = method_into inside b p.other p.other_place in record {
+        shape = x.0;
+        other = y.0;
+        place = x.1;
+        other_place = y.1;
         sub = sub_into inside a.class.number b.class.number p.sub;
-        called = p.called;
-        not_private = p.not_private;
-        not_static = p.not_static;
-        other_not_private = p.other_not_private;
-        other_not_static = p.other_not_static;
-        open_to = open_into a.class.number b.class.number p.other.flags here (sub_here w a.class.number b.class.number here p.sub) p.open_to;
+        called = (sym x.2.name ∙ p.called.0 ∙ y.2.name, sym x.2.desc ∙ p.called.1 ∙ y.2.desc);
+        not_private = λ k. p.not_private (x.2.access.private.1 k);
+        not_static = λ k. p.not_static (x.2.access.static.1 k);
+        other_not_private = λ k. p.other_not_private (y.2.access.private.1 k);
+        other_not_static = λ k. p.other_not_static (y.2.access.static.1 k);
+        open_to = open_into a.class.number b.class.number p.other.flags y.0.flags y.2.access here (sub_here w a.class.number b.class.number here p.sub) p.open_to;
       }
 
   direct_exact : (a b : MethodId) → a.class.number < length w → b.class.number < length w → OverridesDirectly v (method_to to a) (method_to to b) → OverridesDirectly w a b
-  direct_exact a b here there q = record {
-    shape = q.shape;
-    other = q.other;
-    place = method_back inside a q.shape here q.place;
-    other_place = method_back inside b q.other there q.other_place;
-    sub = sub_exact inside a.class.number b.class.number here there q.sub;
-    called = q.called;
-    not_private = q.not_private;
-    not_static = q.not_static;
-    other_not_private = q.other_not_private;
-    other_not_static = q.other_not_static;
-    open_to = open_back a.class.number b.class.number q.other.flags here there q.open_to;
-  }
+  direct_exact a b here there q =
+      let x = method_back inside a q.shape here q.place in
+      let y = method_back inside b q.other there q.other_place in record {
+        shape = x.0;
+        other = y.0;
+        place = x.1;
+        other_place = y.1;
+        sub = sub_exact inside a.class.number b.class.number here there q.sub;
+        called = (x.2.name ∙ q.called.0 ∙ sym y.2.name, x.2.desc ∙ q.called.1 ∙ sym y.2.desc);
+        not_private = λ k. q.not_private (x.2.access.private.0 k);
+        not_static = λ k. q.not_static (x.2.access.static.0 k);
+        other_not_private = λ k. q.other_not_private (y.2.access.private.0 k);
+        other_not_static = λ k. q.other_not_static (y.2.access.static.0 k);
+        open_to = open_back a.class.number b.class.number y.0.flags q.other.flags y.2.access here there q.open_to;
+      }
 
   pub direct_back : (a n : MethodId) → a.class.number < length w → OverridesDirectly v (method_to to a) n → (b : MethodId) × (n ≡ method_to to b) × OverridesDirectly w a b
   direct_back a n here q =

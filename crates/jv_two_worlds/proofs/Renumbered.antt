@@ -1,22 +1,82 @@
 -- When one world stands in another.
 use Rattle.std.proofs.Common.{◌≡◌, ℕ, zero, suc, List, [], ◌∷◌, ◌++◌, Option, Some, None, Contains, slice_get, refl, ap, ◌∙◌, subst}
 use Rattle.std.proofs.lemmas.Option.{slice_get-get_or}
+use Rattle.std.specs.Prelude.{◌↔◌}
+use Rattle.std.specs.List.{AllZip}
+use Rattle.jv_types.specs.declared.access.Access.{Access}
+use Rattle.jv_types.specs.declared.shapes.FieldShape.{FieldShape}
+use Rattle.jv_types.specs.declared.shapes.MethodShape.{MethodShape}
 use Rattle.jv_types.specs.declared.shapes.Shape.{Shape}
 use Rattle.jv_world.specs.Worlds.{HaveDistinctNames, IsWorld}
 use Rattle.jv_resolve.proofs.PlacesLemmas.{among_from_get}
-use Rattle.jv_two_worlds.specs.Renumbering.{IsSameClass, StandsIn}
+use Rattle.jv_two_worlds.specs.Renumbering.{StandsIn}
+use Rattle.jv_two_worlds.specs.SameClasses.{HaveSameAccess, IsSameClass, IsSameField, IsSameMethod}
+
+iff_onward : {A B C : Type 0} → A ↔ B → B ↔ C → A ↔ C
+iff_onward f g = (λ a. g.0 (f.0 a), λ c. f.1 (g.1 c))
+
+iff_itself : {A : Type 0} → A ↔ A
+iff_itself = (λ a. a, λ a. a)
+
+zip_itself : {X : Type 0} (R : X → X → Type 0) → ((x : X) → R x x) → (xs : List X) → AllZip R xs xs
+zip_itself R same [] = tt
+zip_itself R same (x ∷ xs) = (same x, zip_itself R same xs)
+
+zip_onward : {X : Type 0} (R : X → X → Type 0) → ((x y z : X) → R x y → R y z → R x z) → (xs ys zs : List X) → AllZip R xs ys → AllZip R ys zs → AllZip R xs zs
+zip_onward R on [] [] zs p q = q
+zip_onward R on [] (y ∷ ys) zs p q = absurd p
+zip_onward R on (x ∷ xs) [] zs p q = absurd p
+zip_onward R on (x ∷ xs) (y ∷ ys) [] p q = absurd q
+zip_onward R on (x ∷ xs) (y ∷ ys) (z ∷ zs) p q = (on x y z p.0 q.0, zip_onward R on xs ys zs p.1 q.1)
+
+access_itself : (a : Access) → HaveSameAccess a a
+access_itself a = record { public = iff_itself; protected = iff_itself; private = iff_itself; static = iff_itself }
+
+access_onward : (a b c : Access) → HaveSameAccess a b → HaveSameAccess b c → HaveSameAccess a c
+access_onward a b c p q = record {
+  public = iff_onward p.public q.public;
+  protected = iff_onward p.protected q.protected;
+  private = iff_onward p.private q.private;
+  static = iff_onward p.static q.static;
+}
+
+field_itself : (x : FieldShape) → IsSameField x x
+field_itself x = record { name = refl; desc = refl; access = access_itself x.flags }
+
+field_onward : (x y z : FieldShape) → IsSameField x y → IsSameField y z → IsSameField x z
+field_onward x y z p q = record { name = p.name ∙ q.name; desc = p.desc ∙ q.desc; access = access_onward x.flags y.flags z.flags p.access q.access }
+
+method_itself : (x : MethodShape) → IsSameMethod x x
+method_itself x = record { name = refl; desc = refl; access = access_itself x.flags; abstract = iff_itself }
+
+method_onward : (x y z : MethodShape) → IsSameMethod x y → IsSameMethod y z → IsSameMethod x z
+method_onward x y z p q = record {
+  name = p.name ∙ q.name;
+  desc = p.desc ∙ q.desc;
+  access = access_onward x.flags y.flags z.flags p.access q.access;
+  abstract = iff_onward p.abstract q.abstract;
+}
 
 same_itself : (s : Shape) → IsSameClass s s
-same_itself s = record { name = refl; flags = refl; parent = refl; interfaces = refl; fields = refl; methods = refl }
+same_itself s = record {
+  name = refl;
+  public = iff_itself;
+  interface = iff_itself;
+  parent = refl;
+  interfaces = refl;
+  fields = zip_itself IsSameField field_itself s.fields;
+  methods = zip_itself IsSameMethod method_itself s.methods;
+}
 
 same_onward : (s t u : Shape) → IsSameClass s t → IsSameClass t u → IsSameClass s u
 same_onward s t u p q = record {
   name = p.name ∙ q.name;
-  flags = p.flags ∙ q.flags;
+  public = iff_onward p.public q.public;
+  interface = iff_onward p.interface q.interface;
   parent = p.parent ∙ q.parent;
   interfaces = p.interfaces ∙ q.interfaces;
-  fields = p.fields ∙ q.fields;
-  methods = p.methods ∙ q.methods;
+  fields = zip_onward IsSameField field_onward s.fields t.fields u.fields p.fields q.fields;
+  methods = zip_onward IsSameMethod method_onward s.methods t.methods u.methods p.methods q.methods;
 }
 
 -- what stands in front stands in the whole

@@ -1,10 +1,9 @@
 -- What a call runs, in both worlds.
-use Rattle.std.proofs.Common.{◌≡◌, ℕ, suc, ◌<◌, ◌⊎◌, List, length, refl, ap, subst, inl, inr}
+use Rattle.std.proofs.Common.{◌≡◌, ℕ, suc, ◌<◌, ◌⊎◌, List, length, refl, sym, ap, subst, inl, inr}
 use Rattle.std.specs.Prelude.{◌↔◌, unwrap_or}
 use Rattle.jv_types.specs.declared.desc.MethodDesc.{MethodDesc}
 use Rattle.jv_types.specs.declared.ids.MethodId.{MethodId}
 use Rattle.jv_types.specs.declared.references.MethodRef.{MethodRef}
-use Rattle.jv_types.specs.declared.shapes.MethodShape.{MethodShape}
 use Rattle.jv_types.specs.declared.shapes.Shape.{Shape}
 use Rattle.jv_world.specs.Worlds.{Climbs, IsNamed, object_name}
 use Rattle.jv_resolve.specs.Members.{IsInterfaceClass}
@@ -19,6 +18,10 @@ use Rattle.jv_two_worlds.proofs.Finding.{AlikeAt, FindAlike, none_alike, either,
 use Rattle.jv_two_worlds.proofs.Inheriting.{concrete_alike, nearest_alike, no_nearest_alike, default_alike}
 use Rattle.jv_two_worlds.proofs.Overriding.{overrides_into, overrides_exact}
 use Rattle.jv_two_worlds.proofs.Resolving.{begins_named, object_alike}
+
+-- what holds of a name and a descriptor holds of their equals
+at_other : (P : List ℕ → MethodDesc → Type 0) {name other : List ℕ} {desc of : MethodDesc} → name ≡ other → desc ≡ of → P name desc → P other of
+at_other P {other} {desc} e k p = subst (P other) k (subst (λ (n : List ℕ). P n desc) e p)
 
 -- where the search of invokespecial starts is a class
 start_here : (w : List Shape) (from : ℕ) (r : MethodRef) (name : List ℕ) (start : ℕ) → SpecialStart w from r name start → start < length w
@@ -45,31 +48,38 @@ module _ {w v : List Shape} {to : ℕ → ℕ} (inside : StandsIn w v to) where
 
   -- ---- invokevirtual and invokeinterface
 
+  virtual_by : (resolved : MethodId) → resolved.class.number < length w → (c : ℕ) (name : List ℕ) (desc : MethodDesc) → c < length w
+      → FindAlike w to (SelectsBy w (IsOverrider w resolved name desc) c name desc) (SelectsBy v (IsOverrider v (method_to to resolved) name desc) (to c) name desc)
+  virtual_by resolved there c name desc here = by_alike (overrider_alike resolved name desc there) c name desc here
+
   pub virtual_alike : (c : ℕ) (resolved : MethodId) → c < length w → resolved.class.number < length w
       → FindAlike w to (SelectsVirtual w c resolved) (SelectsVirtual v (to c) (method_to to resolved))
-  virtual_alike c resolved here there = record {
-    here = λ m p. (by p.shape).here m p.selects;
-    into = λ m p. record { shape = p.shape; place = method_into inside resolved p.shape p.place; selects = (by p.shape).into m p.selects };
-    back = λ n q.
-        let r = (by q.shape).back n q.selects in
-        (r.0, r.1, record { shape = q.shape; place = method_back inside resolved q.shape there q.place; selects = r.2 });
-  }
-    where
-      by : (x : MethodShape) → FindAlike w to (SelectsBy w (IsOverrider w resolved x.name x.desc) c x.name x.desc) (SelectsBy v (IsOverrider v (method_to to resolved) x.name x.desc) (to c) x.name x.desc)
-      by x = by_alike (overrider_alike resolved x.name x.desc there) c x.name x.desc here
+  virtual_alike c resolved here there =
+      let Runs : MethodId → List ℕ → MethodDesc → Type 0 = λ n name desc. SelectsBy v (IsOverrider v (method_to to resolved) name desc) (to c) name desc n in record {
+        here = λ m p. (virtual_by resolved there c p.shape.name p.shape.desc here).here m p.selects;
+        into = λ m p.
+            let y = method_into inside resolved p.shape p.place in
+            record { shape = y.0; place = y.1; selects = at_other (Runs (method_to to m)) y.2.name y.2.desc ((virtual_by resolved there c p.shape.name p.shape.desc here).into m p.selects) };
+        back = λ n q.
+            let x = method_back inside resolved q.shape there q.place in
+            let r = (virtual_by resolved there c x.0.name x.0.desc here).back n (at_other (Runs n) (sym x.2.name) (sym x.2.desc) q.selects) in
+            (r.0, r.1, record { shape = x.0; place = x.1; selects = r.2 });
+      }
 
   pub interface_alike : (c : ℕ) (resolved : MethodId) → c < length w → resolved.class.number < length w
       → FindAlike w to (SelectsInterface w c resolved) (SelectsInterface v (to c) (method_to to resolved))
-  interface_alike c resolved here there = record {
-    here = λ m p. (by p.shape).here m p.selects;
-    into = λ m p. record { shape = p.shape; place = method_into inside resolved p.shape p.place; selects = (by p.shape).into m p.selects };
-    back = λ n q.
-        let r = (by q.shape).back n q.selects in
-        (r.0, r.1, record { shape = q.shape; place = method_back inside resolved q.shape there q.place; selects = r.2 });
-  }
-    where
-      by : (x : MethodShape) → FindAlike w to (SelectsBy w (IsCandidate w x.name x.desc) c x.name x.desc) (SelectsBy v (IsCandidate v x.name x.desc) (to c) x.name x.desc)
-      by x = by_alike (candidate_alike x.name x.desc) c x.name x.desc here
+  interface_alike c resolved here there =
+      let Runs : MethodId → List ℕ → MethodDesc → Type 0 = λ n name desc. SelectsBy v (IsCandidate v name desc) (to c) name desc n in record {
+        here = λ m p. (by_alike (candidate_alike p.shape.name p.shape.desc) c p.shape.name p.shape.desc here).here m p.selects;
+        into = λ m p.
+            let y = method_into inside resolved p.shape p.place in
+            let found = (by_alike (candidate_alike p.shape.name p.shape.desc) c p.shape.name p.shape.desc here).into m p.selects in
+            record { shape = y.0; place = y.1; selects = at_other (Runs (method_to to m)) y.2.name y.2.desc found };
+        back = λ n q.
+            let x = method_back inside resolved q.shape there q.place in
+            let r = (by_alike (candidate_alike x.0.name x.0.desc) c x.0.name x.0.desc here).back n (at_other (Runs n) (sym x.2.name) (sym x.2.desc) q.selects) in
+            (r.0, r.1, record { shape = x.0; place = x.1; selects = r.2 });
+      }
 
   -- ---- where invokespecial starts
 
@@ -99,18 +109,18 @@ module _ {w v : List Shape} {to : ℕ → ℕ} (inside : StandsIn w v to) where
 
   module _ (resolved : MethodId) (there : resolved.class.number < length w) where
     special_into : (m : MethodId) → IsSpecial w resolved m → IsSpecial v (method_to to resolved) (method_to to m)
-    special_into m p = (p.0, method_into inside m p.0 p.1, p.2, pick p.3)
+    special_into m p = let y = method_into inside m p.0 p.1 in (y.0, y.1, (λ k. p.2 (y.2.access.static.1 k)), pick (λ n k. n (y.2.access.private.1 k)) p.3)
       where
-        pick : {A : Type 0} → A ⊎ (m ≡ resolved) → A ⊎ (method_to to m ≡ method_to to resolved)
-        pick (inl a) = inl a
-        pick (inr e) = inr (ap (method_to to) e)
+        pick : {A B : Type 0} → (A → B) → A ⊎ (m ≡ resolved) → B ⊎ (method_to to m ≡ method_to to resolved)
+        pick f (inl a) = inl (f a)
+        pick f (inr e) = inr (ap (method_to to) e)
 
     special_back : (m : MethodId) → m.class.number < length w → IsSpecial v (method_to to resolved) (method_to to m) → IsSpecial w resolved m
-    special_back m here q = (q.0, method_back inside m q.0 here q.1, q.2, pick q.3)
+    special_back m here q = let x = method_back inside m q.0 here q.1 in (x.0, x.1, (λ k. q.2 (x.2.access.static.0 k)), pick (λ n k. n (x.2.access.private.0 k)) q.3)
       where
-        pick : {A : Type 0} → A ⊎ (method_to to m ≡ method_to to resolved) → A ⊎ (m ≡ resolved)
-        pick (inl a) = inl a
-        pick (inr e) = inr (one_member inside m resolved here there e)
+        pick : {A B : Type 0} → (A → B) → A ⊎ (method_to to m ≡ method_to to resolved) → B ⊎ (m ≡ resolved)
+        pick f (inl a) = inl (f a)
+        pick f (inr e) = inr (one_member inside m resolved here there e)
 
     special_candidate_alike : (name : List ℕ) (desc : MethodDesc) → AlikeAt w to (IsSpecialCandidate w resolved name desc) (IsSpecialCandidate v (method_to to resolved) name desc)
     special_candidate_alike name desc = record {
@@ -157,18 +167,23 @@ module _ {w v : List Shape} {to : ℕ → ℕ} (inside : StandsIn w v to) where
 
     pub special_alike : (from k : ℕ) (r : MethodRef) → from < length w → BeginsAt w r.class k
         → FindAlike w to (SelectsSpecial w from r resolved) (SelectsSpecial v (to from) r (method_to to resolved))
-    special_alike from k r here begins = record {
-      here = λ m p. (from_alike p.shape.name p.shape.desc p.start (start_here w from r p.shape.name p.start p.starts)).here m p.selects;
-      into = λ m p. record {
-        shape = p.shape;
-        place = method_into inside resolved p.shape p.place;
-        start = to p.start;
-        starts = start_into from k r p.shape.name here begins p.start p.starts;
-        selects = (from_alike p.shape.name p.shape.desc p.start (start_here w from r p.shape.name p.start p.starts)).into m p.selects;
-      };
-      back = λ n q.
-          let s = start_back from k r q.shape.name here begins q.start q.starts in
-          let found = (from_alike q.shape.name q.shape.desc s.0 (start_here w from r q.shape.name s.0 s.2)).back n
-          (subst (λ (x : ℕ). SelectsFrom v (method_to to resolved) q.shape.name q.shape.desc x n) s.1 q.selects) in
-          (found.0, found.1, record { shape = q.shape; place = method_back inside resolved q.shape there q.place; start = s.0; starts = s.2; selects = found.2 });
-    }
+    special_alike from k r here begins =
+        let Runs : ℕ → MethodId → List ℕ → MethodDesc → Type 0 = λ start n name desc. SelectsFrom v (method_to to resolved) name desc start n in record {
+          here = λ m p. (from_alike p.shape.name p.shape.desc p.start (start_here w from r p.shape.name p.start p.starts)).here m p.selects;
+          into = λ m p.
+              let y = method_into inside resolved p.shape p.place in
+              let found = (from_alike p.shape.name p.shape.desc p.start (start_here w from r p.shape.name p.start p.starts)).into m p.selects in record {
+                shape = y.0;
+                place = y.1;
+                start = to p.start;
+                starts = subst (λ (name : List ℕ). SpecialStart v (to from) r name (to p.start)) y.2.name (start_into from k r p.shape.name here begins p.start p.starts);
+                selects = at_other (Runs (to p.start) (method_to to m)) y.2.name y.2.desc found;
+              };
+          back = λ n q.
+              let x = method_back inside resolved q.shape there q.place in
+              let starts = subst (λ (name : List ℕ). SpecialStart v (to from) r name q.start) (sym x.2.name) q.starts in
+              let s = start_back from k r x.0.name here begins q.start starts in
+              let selects = at_other (Runs q.start n) (sym x.2.name) (sym x.2.desc) q.selects in
+              let found = (from_alike x.0.name x.0.desc s.0 (start_here w from r x.0.name s.0 s.2)).back n (subst (λ (e : ℕ). Runs e n x.0.name x.0.desc) s.1 selects) in
+              (found.0, found.1, record { shape = x.0; place = x.1; start = s.0; starts = s.2; selects = found.2 });
+        }

@@ -1,3 +1,4 @@
+pub mod SameClasses
 pub mod Renumbering
 pub mod Agreeing
 pub mod Types

@@ -1,23 +1,14 @@
 -- One world inside another: each class of the one, and so all that is above it, stands in the other under another
--- number, with the same shape (JVMS 4.1).
+-- number, as the same class (JVMS 4.1).
 use Rattle.std.specs.Prelude.{◌≡◌, ℕ, List, Some, slice_get}
 use Rattle.jv_types.specs.declared.ids.ClassId.{ClassId}
 use Rattle.jv_types.specs.declared.ids.FieldId.{FieldId}
 use Rattle.jv_types.specs.declared.ids.MethodId.{MethodId}
 use Rattle.jv_types.specs.declared.shapes.Shape.{Shape}
 use Rattle.jv_world.specs.Worlds.{HaveDistinctNames, IsWorld}
+use Rattle.jv_two_worlds.specs.SameClasses.{IsSameClass}
 
--- the two shapes are equal but for whether the class belongs to the application
-pub record IsSameClass (shape other : Shape) : Type 0 where
-  pub name : shape.name ≡ other.name
-  pub flags : shape.flags ≡ other.flags
-  pub parent : shape.parent ≡ other.parent
-  pub interfaces : shape.interfaces ≡ other.interfaces
-  pub fields : shape.fields ≡ other.fields
-  pub methods : shape.methods ≡ other.methods
-
--- Each class of the world w stands in v at the number that `to` gives it, with the same shape; v has each name
--- once. What a class of a world names as its superclass or as a superinterface is there, so that it stands in v too.
+-- Each class of the world w stands in v at the number that `to` gives it, as the same class; v has each name once. What a class of a world names as its superclass or as a superinterface is there, so that it stands in v too.
 pub record StandsIn (w v : List Shape) (to : ℕ → ℕ) : Type 0 where
   pub world : IsWorld w
   pub distinct : HaveDistinctNames v

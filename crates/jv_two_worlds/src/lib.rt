@@ -1,5 +1,5 @@
 //! The law of two worlds: where the classes of a world, with all above them, stand in another one under other
-//! numbers, with the same shapes, the two agree on supertypes, resolution, access, overriding and selection.
+//! numbers, as the same classes, the two agree on supertypes, resolution, access, overriding and selection.
 #![tactic(auto)]
 
 mod access;

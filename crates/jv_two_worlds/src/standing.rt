@@ -3,7 +3,8 @@
 ghost use Rattle.std.specs.Prelude.{ℕ, ◌++◌, List, Contains};
 ghost use Rattle.jv_types.specs.declared.shapes.Shape.{Shape};
 ghost use Rattle.jv_world.specs.Worlds.{HaveDistinctNames, IsWorld};
-ghost use Rattle.jv_two_worlds.specs.Renumbering.{IsSameClass, StandsIn};
+ghost use Rattle.jv_two_worlds.specs.Renumbering.{StandsIn};
+ghost use Rattle.jv_two_worlds.specs.SameClasses.{IsSameClass};
 
 /// A world stands in each list of shapes that begins with its classes, and in each that has them in any order, where
 /// no two classes there have one name; and it stands in what the other world stands in.
