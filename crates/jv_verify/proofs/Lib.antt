@@ -9,3 +9,4 @@ mod Tables
 mod Ready
 mod OneCode
 mod Causes
+mod Verified

@@ -5,6 +5,7 @@ mod checks;
 mod codes;
 mod forced;
 mod goes;
+pub mod laws;
 mod no_table;
 mod refusal;
 mod rows;
