@@ -9,6 +9,8 @@ mod conditions;
 #[cfg(test)]
 mod declared;
 #[cfg(test)]
+mod dimensions;
+#[cfg(test)]
 mod fields;
 #[cfg(test)]
 mod fix;
