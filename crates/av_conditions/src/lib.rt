@@ -11,5 +11,6 @@ mod wrong;
 
 pub use core_classes::is_as_core;
 pub use initialisers::initialisers_of;
-pub use members::{resolved_call, resolved_field};
+pub use members::{resolved_call, resolved_field, resolved_method};
+pub use operands::{field_flags, method_flags};
 pub use wrong::{first_wrong, is_right_insn};

@@ -27,8 +27,9 @@ pub fn resolved_field(
     }
 }
 
-/// The method of a class or array to which a reference resolves, if there is one.
-fn resolved_method(
+/// The method of a class or array to which a reference resolves, if there is one (JVMS 5.4.3.3). Only memory can
+/// be wanting.
+pub fn resolved_method(
     alloc: Global,
     world: &World,
     r: &MethodRef,

@@ -28,8 +28,8 @@ fn agrees(wanted: bool, has: bool) -> bool
     if wanted { has } else { !has }
 }
 
-/// The access flags of a field.
-fn field_flags(world: &World, f: FieldId) -> Access
+/// The access flags of a field (JVMS table 4.5-A).
+pub fn field_flags(world: &World, f: FieldId) -> Access
     requires { HasField world.now f }
     ensures flags { (x : FieldValue) × IsField world.now f x × (result ≡ x.flags) }
     ensures world { IsWorld world.now }
@@ -37,8 +37,8 @@ fn field_flags(world: &World, f: FieldId) -> Access
     world.shape(f.class).fields.as_slice()[f.index as usize].flags
 }
 
-/// The access flags of a method.
-fn method_flags(world: &World, m: MethodId) -> Access
+/// The access flags of a method (JVMS table 4.6-A).
+pub fn method_flags(world: &World, m: MethodId) -> Access
     requires { HasMethod world.now m }
     ensures flags { (x : MethodValue) × IsMethod world.now m x × (result ≡ x.flags) }
     ensures world { IsWorld world.now }

@@ -1,23 +1,15 @@
-ghost use Rattle.std.specs.Prelude.{◌≡◌, ◌<◌, ◌↔◌, List, IsTrue, IfOk, IfSome, IfNone, length};
+ghost use Rattle.std.specs.Prelude.{◌≡◌, ◌<◌, ◌↔◌, IsTrue, IfOk, length};
 ghost use Rattle.jv_types.specs.declared.frames.VType.{Class};
-ghost use Rattle.jv_types.specs.declared.shapes.FieldShape.{FieldShape as FieldValue};
-ghost use Rattle.jv_types.specs.declared.shapes.MethodShape.{MethodShape as MethodValue};
 ghost use Rattle.jv_types.specs.declared.shapes.Shape.{Shape};
-ghost use Rattle.jv_types.specs.declared.ids.MethodId.{MethodId};
-ghost use Rattle.jv_world.specs.Worlds.{IsWorld};
-ghost use Rattle.jv_resolve.specs.Members.{HasField, HasMethod, IsField, IsMethod};
-ghost use Rattle.jv_resolve.specs.Resolving.{ResolvesMethod};
 ghost use Rattle.jv_typing.specs.References.{IsThisClass, IsRestricted, PassesProtected, PassesForField, PassesForMethod};
 ghost use Rattle.jv_verify_refs.specs.Steps.Parts.{site_of};
 
 use crate::step::Step;
 use crate::types::is_array;
-use av_conditions::resolved_field;
+use av_conditions::{field_flags, method_flags, resolved_field, resolved_method};
 use jv_frames::assignable;
-use jv_resolve::{
-    ResolveRefusal, are_in_one_package, field_shape, is_protected, method_shape, resolve_method,
-};
-use jv_types::{Access, ClassId, Copied, FieldId, FieldRef, MethodId, MethodRef, VType};
+use jv_resolve::{are_in_one_package, is_protected};
+use jv_types::{Access, ClassId, Copied, FieldRef, MethodRef, VType};
 use jv_world::World;
 use std::alloc::{AllocError, Global};
 
@@ -61,42 +53,6 @@ fn passes_protected(
         return true;
     }
     assignable(step.world, receiver, current)
-}
-
-/// The access flags of a field.
-fn field_flags(world: &World, f: FieldId) -> Access
-    requires { HasField world.now f }
-    ensures flags { (x : FieldValue) × IsField world.now f x × (result ≡ x.flags) }
-    ensures world { IsWorld world.now }
-{
-    world.shape(f.class).fields.as_slice()[f.index as usize].flags
-}
-
-/// The access flags of a method.
-fn method_flags(world: &World, m: MethodId) -> Access
-    requires { HasMethod world.now m }
-    ensures flags { (x : MethodValue) × IsMethod world.now m x × (result ≡ x.flags) }
-    ensures world { IsWorld world.now }
-{
-    world.shape(m.class).methods.as_slice()[m.index as usize].flags
-}
-
-/// The method of a class or array to which a reference resolves, if there is one.
-fn resolved_method(
-    alloc: Global,
-    world: &World,
-    r: &MethodRef,
-) -> Result<Option<MethodId>, AllocError>
-    ensures found { IfOk result (λ o. IfSome o (ResolvesMethod world.now r.now)) }
-    ensures none { IfOk result (λ o. IfNone o ((m : MethodId) → ¬ ResolvesMethod world.now r.now m)) }
-{
-    match resolve_method(alloc, world, r) {
-        Ok(m) => Ok(Some(m)),
-        Err(ResolveRefusal::NotFound) => Ok(None),
-        Err(ResolveRefusal::WrongKind) => Ok(None),
-        Err(ResolveRefusal::NoAccess) => Ok(None),
-        Err(ResolveRefusal::Memory) => Err(AllocError),
-    }
 }
 
 /// Whether a receiver passes the check for the field that a reference resolves to.
