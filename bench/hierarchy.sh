@@ -3,12 +3,17 @@
 # classes and on a lattice of interfaces, on n and 2n of them. Prints a row a world: how many proper supertypes
 # its classes have together, the seconds and the peak memory of building, nanoseconds and bytes a supertype,
 # and the seconds of a million subtype tests. Then a row for a class of many methods and for chains of a hundred
-# classes: nanoseconds to resolve a method of the topmost class from the lowest one and to select it there. It
-# builds the program first.
+# classes, also where each class that is passed has many others: nanoseconds to resolve a method of the topmost
+# class from the lowest one and to select it there, and the seconds of building. It builds the program first,
+# unless a second word names one that is there.
 set -eu
 top=$(cd "$(dirname "$0")/.." && pwd)
-"$top/bench/build.sh" measure sample
-python3 - "$top/crates/measure/out/measure" "${1:-5000}" <<'PY'
+program=${2:-}
+if [ -z "$program" ]; then
+  "$top/bench/build.sh" measure sample
+  program=$top/crates/measure/out/measure
+fi
+python3 - "$program" "${1:-5000}" <<'PY'
 import os, subprocess, sys, time
 
 program, classes = sys.argv[1], int(sys.argv[2])
@@ -39,12 +44,13 @@ for family in ("chain", "fan", "lattice"):
             % (family, count, supers, built, peak, built * 1e9 / supers, peak * 1024 / supers, tested - built)
         )
 
-for count, methods in ((1, 5000), (100, 50), (100, 5000)):
-    built, _, _ = run("members", str(count), str(methods), "0")
-    found, peak, out = run("members", str(count), str(methods), "1")
-    assert int(out) == methods, (count, methods)
+for count, methods, others in ((1, 5000, 0), (100, 50, 0), (100, 5000, 0), (100, 50, 500), (100, 5000, 500)):
+    words = ("members", str(count), str(methods), str(others))
+    built, _, _ = run(*words, "0")
+    found, peak, out = run(*words, "1")
+    assert int(out) == methods, words
     print(
-        "members classes=%d methods=%d: %.0f ns to resolve and select one, %d KiB"
-        % (count, methods, (found - built) * 1e9 / methods, peak)
+        "members classes=%d methods=%d others=%d: build: %.3f s, %.0f ns to resolve and select one, %d KiB"
+        % (count, methods, others, built, (found - built) * 1e9 / methods, peak)
     )
 PY
