@@ -1,6 +1,6 @@
 //! What the verifier answers of the one method of a class file.
 
-ghost use Rattle.std.specs.Prelude.{◌<◌, IsTrue, IfOk, length};
+ghost use Rattle.std.specs.Prelude.{◌<◌, ◌↔◌, IsTrue, IfOk, length};
 ghost use Rattle.jv_types.specs.declared.shapes.MethodShape.{MethodShape as Declared};
 ghost use Rattle.jv_desc.specs.Texts.{method_text};
 ghost use Rattle.jv_class.specs.ClassTexts.{AreDistinct};
@@ -19,6 +19,19 @@ use jv_world::World;
 use std::alloc::{AllocError, Global};
 use std::test::Fail;
 
+/// Whether a member of a class file has this name and descriptor.
+fn is_named_so(pool: &Pool, name: &[u8], descriptor: &[u8], member: &Member) -> bool
+    ensures { IsTrue result ↔ IsNamedSo pool.now name.now descriptor.now member.now }
+{
+    match pool.utf8(member.name) {
+        None => false,
+        Some(own) => match pool.utf8(member.desc) {
+            None => false,
+            Some(own_descriptor) => own == name && own_descriptor == descriptor,
+        },
+    }
+}
+
 /// Whether a member of a class file has the name and the descriptor of a method of the world.
 fn is_named_as(
     alloc: Global,
@@ -32,12 +45,8 @@ fn is_named_as(
 {
     let method = &world.shape(id.class).methods.as_slice()[usize::from(id.index)];
     let descriptor = show_method(alloc, &method.desc)?;
-    match (pool.utf8(member.name), pool.utf8(member.desc)) {
-        (Some(name), Some(own)) => {
-            Ok(name == method.name.as_slice() && own == descriptor.as_slice())
-        }
-        _ => Ok(false),
-    }
+    let name = method.name.as_slice();
+    Ok(is_named_so(pool, name, descriptor.as_slice(), member))
 }
 
 /// The code of the first method of a class file, which is to be this one of the world.
