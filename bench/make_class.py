@@ -9,6 +9,10 @@ FAMILY  chain  main calls m0, and each method the next one
         flow   N methods, each of which makes an object, puts the one it was handed into its field, and
                hands it to the next method, which reads it back out of that field
         codes  one method of N bytes of code, of pushes and pops, with 10,000 handlers
+        long   one method of N instructions, of pushes and pops, with 200 local variables
+        handlers  one method of N handlers, each of which covers a push and a pop of its own
+        covered   one method of N handlers, each of which covers all of N pushes and pops
+        maps   one method of N branches, each to the frame of a stack map behind it, with 2 local variables
 The class is named `Big`, and FILE should be `Big.class`.
 """
 import struct
@@ -55,11 +59,21 @@ def call(name):
     return b"\xb8" + struct.pack(">H", method_item("Big", name, "()V"))
 
 
-def method(name, desc, access, code, handlers=b""):
-    content = struct.pack(">HHI", 2, 2, len(code)) + code
-    content += struct.pack(">H", len(handlers) // 8) + handlers + struct.pack(">H", 0)
+def method(name, desc, access, code, handlers=b"", maps=(), max_locals=2):
+    content = struct.pack(">HHI", 2, max_locals, len(code)) + code
+    content += struct.pack(">H", len(handlers) // 8) + handlers
+    if maps:
+        table = struct.pack(">H", len(maps)) + b"".join(maps)
+        content += struct.pack(">HHI", 1, utf8("StackMapTable"), len(table)) + table
+    else:
+        content += struct.pack(">H", 0)
     attribute = struct.pack(">HI", utf8("Code"), len(content)) + content
     return struct.pack(">HHHH", access, utf8(name), utf8(desc), 1) + attribute
+
+
+def caught(delta):
+    """The frame of a stack map at which a handler begins that catches all."""
+    return b"\xf7" + struct.pack(">H", delta) + b"\x07" + struct.pack(">H", class_item("java/lang/Throwable"))
 
 
 def named(op, index):
@@ -105,8 +119,21 @@ elif family == "codes":
     code = b"\x03\x57" * ((size - 1) // 2) + b"\0" * ((size - 1) % 2) + end
     handlers = b"".join(struct.pack(">HHHH", 2 * (i % 1000), size, 0, 0) for i in range(10000))
     methods.append(method("main", main_desc, 9, code, handlers))
+elif family == "long":
+    stores = b"".join(b"\x03\x36" + bytes([i]) for i in range(1, 200))
+    code = stores + b"\x03\x57" * ((size - 399) // 2) + b"\0" * ((size - 399) % 2) + end
+    methods.append(method("main", main_desc, 9, code, max_locals=200))
+elif family in ("handlers", "covered"):
+    code = b"\x03\x57" * size + end + b"\x57" + end
+    target = 2 * size + 1
+    bounds = [(2 * i, 2 * i + 2) if family == "handlers" else (0, 2 * size) for i in range(size)]
+    handlers = b"".join(struct.pack(">HHHH", start, over, target, 0) for start, over in bounds)
+    methods.append(method("main", main_desc, 9, code, handlers, [caught(target)]))
+elif family == "maps":
+    code = b"\x03\x99\0\x03" * size + end
+    methods.append(method("main", main_desc, 9, code, maps=[b"\x04"] + [b"\x03"] * (size - 1)))
 else:
-    sys.exit("FAMILY is chain, fan, wide, flow or codes")
+    sys.exit("FAMILY is chain, fan, wide, flow, codes, long, handlers, covered or maps")
 
 this_class, super_class = class_item("Big"), class_item("java/lang/Object")
 out = b"\xca\xfe\xba\xbe" + struct.pack(">HHH", 0, 52, len(pool) + 1) + b"".join(pool)

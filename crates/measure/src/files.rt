@@ -1,4 +1,5 @@
 use anyhow::{Result, bail};
+use jv_bytes::shown;
 use jv_host::{Host, HostFault};
 use jv_types::Name;
 use std::alloc::Global;
@@ -16,8 +17,13 @@ pub struct File {
     pub bytes: Vec<u8>,
 }
 
+/// A name as it is printed.
+pub fn shown_name(alloc: Global, name: &Name) -> Result<String> {
+    Ok(String::from_utf8(shown(alloc, name.as_slice())?)?)
+}
+
 /// The names of the class files below a folder.
-fn names_below<H: Host>(alloc: Global, host: &mut H, folder: &Name) -> Result<Vec<Name>> {
+pub fn names_below<H: Host>(alloc: Global, host: &mut H, folder: &Name) -> Result<Vec<Name>> {
     match host.list(alloc, folder, MOST_FILES) {
         Ok(names) => Ok(names),
         Err(HostFault::Failed) => bail!("a folder could not be listed"),
@@ -26,7 +32,7 @@ fn names_below<H: Host>(alloc: Global, host: &mut H, folder: &Name) -> Result<Ve
 }
 
 /// The bytes of a file.
-fn bytes_of<H: Host>(alloc: Global, host: &mut H, root: &Name, name: &Name) -> Result<Vec<u8>> {
+pub fn bytes_of<H: Host>(alloc: Global, host: &mut H, root: &Name, name: &Name) -> Result<Vec<u8>> {
     match host.read(alloc, root, name, MOST_BYTES) {
         Ok(Some(bytes)) => Ok(bytes),
         Ok(None) => bail!("there is no such file"),

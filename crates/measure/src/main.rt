@@ -7,6 +7,13 @@
 //!   writes them again, or decodes the codes of their methods; prints how many files, codes, bytes and
 //!   instructions these were. With `again` it prints a line for each file that is refused or not written as
 //!   it was. Its status is 0 only where none was refused or changed.
+//! - `verify` ROUNDS APPLICATION LIBRARY: reads each class file below the folder APPLICATION and below the folder
+//!   LIBRARY, and builds their world; a class that stands in both is one of the application. So many times it
+//!   decodes the code of each method of the application, looks at its references, and verifies it. It prints a
+//!   line for each method that isn't verified: its class, name and descriptor, and the number of the rule or
+//!   that a reference is wrong, with the offset. Then how many classes there are of both, how many codes there
+//!   were in all rounds, how many of them were verified, and how many instructions these had. Its status is 0
+//!   only where all were verified.
 //! - `world` FAMILY CLASSES TESTS: builds a `chain`, a `fan` or a `lattice` of so many classes, and makes so
 //!   many subtype tests; prints how many proper supertypes the classes have together and how many tests
 //!   answered yes.
@@ -23,15 +30,19 @@ mod codes;
 mod files;
 mod graph;
 mod members;
+mod methods;
 mod node;
 mod rounds;
+mod sources;
 mod texts;
+mod verifying;
 mod worlds;
 
 use anyhow::{Context, Result, bail};
 use classes::measure_classes;
 use graph::measure_close;
 use members::measure_members;
+use methods::measure_methods;
 use std::env;
 use texts::measure_texts;
 use worlds::measure_world;
@@ -55,6 +66,7 @@ fn sample(rt: &HostRuntime) -> Result<()> {
     measure_texts(rt, "descriptors", 2)?;
     measure_classes(rt, "again", 2, &["."])?;
     measure_classes(rt, "decode", 1, &["."])?;
+    measure_methods(rt, 2, "verify/program", "verify/library")?;
     measure_world(rt, "lattice", 30, 10)?;
     measure_members(rt, 5, 10, 3, 1)?;
     measure_close(rt, 1000)
@@ -74,6 +86,7 @@ fn work(rt: &HostRuntime, words: &[String]) -> Result<()> {
             }
             measure_classes(rt, name, number(words, 1)?, &paths)
         }
+        "verify" => measure_methods(rt, number(words, 1)?, word(words, 2)?, word(words, 3)?),
         "world" => measure_world(rt, word(words, 1)?, number(words, 2)?, number(words, 3)?),
         "members" => measure_members(
             rt,

@@ -67,7 +67,7 @@ fn refs_of(alloc: Global, classes: u32, methods: u32) -> Result<Vec<MethodRef>, 
 }
 
 /// The method of this number, where a world has it.
-fn in_world(world: &World, m: MethodId) -> Option<MethodId>
+pub fn in_world(world: &World, m: MethodId) -> Option<MethodId>
     ensures { IfSome result (HasMethod world.now) }
 {
     let shapes = world.shapes();

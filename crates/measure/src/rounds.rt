@@ -1,6 +1,5 @@
-use crate::files::File;
+use crate::files::{File, shown_name};
 use anyhow::{Result, bail};
-use jv_bytes::shown;
 use jv_class::{BadClass, WriteRefusal, read_class, write_class};
 use std::alloc::Global;
 
@@ -63,7 +62,7 @@ fn take_one(alloc: Global, work: Work, bytes: &[u8]) -> Result<Outcome> {
 
 /// Prints the name of a file that was refused or changed.
 fn tell(rt: &(impl Print + AllocGlobal), outcome: Outcome, file: &File) -> Result<()> {
-    let name = String::from_utf8(shown(rt.alloc(), file.name.as_slice())?)?;
+    let name = shown_name(rt.alloc(), &file.name)?;
     match outcome {
         Outcome::Same => {}
         Outcome::Refused => println!(rt; "refused {name}")?,

@@ -1,0 +1,80 @@
+#!/usr/bin/env bash
+# Times verifying: the program `measure` verifies the methods of the class files below each folder of CLASSES (of
+# its folder `programs`, each subfolder) over the declarations of a library. Beside it, where a JDK is installed,
+# the JVM links the same classes (bench/Linking.java), with -Xverify:all and with -Xverify:none; the difference
+# is its verifying. Then single methods of n, 2n and 4n instructions, handlers or frames (bench/make_class.py).
+# Prints instructions by the second, of a single method milliseconds, and the peak memory. Our seconds are of the
+# processor, less what reading takes; those of the JVM are what its one thread waited, without the first of its
+# rounds.
+#
+# verify.sh CLASSES LIBRARY [ROUNDS]
+set -eu
+top=$(cd "$(dirname "$0")/.." && pwd)
+work=$(mktemp -d)
+trap 'rm -rf "$work"' EXIT
+"$top/bench/build.sh" measure sample
+if command -v javac >/dev/null 2>&1; then
+  javac -d "$work" "$top/bench/Linking.java"
+fi
+python3 - "$top" "$work" "$1" "$2" "${3:-20}" <<'PY'
+import glob, os, subprocess, sys
+
+top, work, classes, library, rounds = sys.argv[1:5] + [int(sys.argv[5])]
+program = top + "/crates/measure/out/measure"
+has_jvm = os.path.exists(work + "/Linking.class")
+
+
+def run(words):
+    # processor seconds, peak bytes, and what was printed
+    child = subprocess.Popen(words, stdout=subprocess.PIPE, stderr=subprocess.DEVNULL)
+    out = child.stdout.read().split()
+    _, status, used = os.wait4(child.pid, 0)
+    assert status == 0, words
+    return used.ru_utime + used.ru_stime, used.ru_maxrss * 1024, out
+
+
+def ours(times, folder, library):
+    # the best of three runs, less what reading alone takes: seconds a round, its codes and instructions, peak
+    def verify(times):
+        runs = [run([program, "verify", str(times), folder, library]) for _ in range(3)]
+        return min(runs, key=lambda one: one[0])
+
+    reading, (seconds, peak, out) = verify(0)[0], verify(times)
+    assert out[5] == out[7]
+    return (seconds - reading) / times, int(out[5]) // times, int(out[9]) // times, peak
+
+
+def theirs(times, folder):
+    # the best of three runs of linking with and without verifying: seconds a round of verifying, and peak
+    def link(kind):
+        words = ["java", "-Xverify:" + kind, "-cp", work, "Linking", str(times + 1), folder]
+        runs = [run(words) for _ in range(3)]
+        return min(int(out[1]) for _, _, out in runs) / times / 1e9, max(peak for _, peak, _ in runs)
+
+    seconds, peak = link("all")
+    return seconds - link("none")[0], peak
+
+
+def row(what, times, folder, library):
+    seconds, codes, insns, peak = ours(times, folder, library)
+    line = "%s: %d codes, %d instructions, %.2f ms, %.2f million instructions a second, peak %.1f MB" % (
+        what, codes, insns, seconds * 1e3, insns / seconds / 1e6, peak / 1e6)
+    if has_jvm:
+        jvm, jvm_peak = theirs(times, folder)
+        line += "; JVM %.2f ms, ours : JVM %.1f, peak %.1f MB" % (jvm * 1e3, seconds / jvm, jvm_peak / 1e6)
+    print(line if has_jvm else line + ", no JDK", flush=True)
+
+
+for folder in ["cup", "jasmin", "jlex", "jzlib", "tagsoup"] + sorted(
+    os.path.relpath(path, classes) for path in glob.glob(classes + "/programs/*/")
+):
+    if os.path.isdir(os.path.join(classes, folder)):
+        row(folder, rounds, os.path.join(classes, folder), library)
+
+for family, most, times in (("long", 60000, 5), ("handlers", 5000, 5), ("covered", 1000, 2), ("maps", 10000, 5)):
+    for size in (most // 4, most // 2, most):
+        folder = "%s/%s%d" % (work, family, size)
+        os.mkdir(folder)
+        subprocess.run(["python3", top + "/bench/make_class.py", family, str(size), folder + "/Big.class"], check=True)
+        row("%s n=%d" % (family, size), times, folder, top + "/crates/measure/data/verify/library")
+PY
