@@ -10,8 +10,9 @@
 //! - `world` FAMILY CLASSES TESTS: builds a `chain`, a `fan` or a `lattice` of so many classes, and makes so
 //!   many subtype tests; prints how many proper supertypes the classes have together and how many tests
 //!   answered yes.
-//! - `members` CLASSES METHODS ROUNDS: resolves and selects each of so many methods of the topmost class of a
-//!   chain, from its lowest class, so many times; prints how many were resolved and selected.
+//! - `members` CLASSES METHODS OTHERS ROUNDS: resolves and selects each of so many methods of the topmost class
+//!   of a chain, from its lowest class, so many times; the other classes have so many methods of other names.
+//!   Prints how many were resolved and selected.
 //! - `close` SIZE: goes over a graph of so many nodes, each with four successors, from one of them; prints how
 //!   many it found.
 //! - `sample`: a little of each, over the folder in which it runs.
@@ -55,7 +56,7 @@ fn sample(rt: &HostRuntime) -> Result<()> {
     measure_classes(rt, "again", 2, &["."])?;
     measure_classes(rt, "decode", 1, &["."])?;
     measure_world(rt, "lattice", 30, 10)?;
-    measure_members(rt, 5, 10, 1)?;
+    measure_members(rt, 5, 10, 3, 1)?;
     measure_close(rt, 1000)
 }
 
@@ -74,7 +75,13 @@ fn work(rt: &HostRuntime, words: &[String]) -> Result<()> {
             measure_classes(rt, name, number(words, 1)?, &paths)
         }
         "world" => measure_world(rt, word(words, 1)?, number(words, 2)?, number(words, 3)?),
-        "members" => measure_members(rt, number(words, 1)?, number(words, 2)?, number(words, 3)?),
+        "members" => measure_members(
+            rt,
+            number(words, 1)?,
+            number(words, 2)?,
+            number(words, 3)?,
+            number(words, 4)?,
+        ),
         "close" => measure_close(rt, number(words, 1)?),
         "sample" => sample(rt),
         _ => bail!("{USAGE}"),

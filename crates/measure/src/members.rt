@@ -8,9 +8,9 @@ use jv_types::{Access, ClassId, MethodDesc, MethodId, MethodRef, MethodShape, Na
 use jv_world::{World, are_numbered};
 use std::alloc::{AllocError, Global};
 
-/// The name of the method of a number.
-fn method_name(alloc: Global, number: u32) -> Result<Name, AllocError> {
-    let text = format!(in alloc; "method{number}")?;
+/// The name of the method of a number, one of those of a kind.
+fn method_name(alloc: Global, kind: &str, number: u32) -> Result<Name, AllocError> {
+    let text = format!(in alloc; "{kind}{number}")?;
     Name::from_slice(alloc, text.as_bytes())
 }
 
@@ -22,12 +22,12 @@ fn plain_desc(alloc: Global) -> MethodDesc {
     }
 }
 
-/// So many public methods.
-fn methods_of(alloc: Global, count: u32) -> Result<Seq<MethodShape>, AllocError> {
+/// So many public methods of a kind.
+fn methods_of(alloc: Global, kind: &str, count: u32) -> Result<Seq<MethodShape>, AllocError> {
     let mut methods = Seq::new(alloc);
     for number in 0..count {
         methods.push(MethodShape {
-            name: method_name(alloc, number)?,
+            name: method_name(alloc, kind, number)?,
             desc: plain_desc(alloc),
             flags: Access(1),
             code: true,
@@ -36,11 +36,15 @@ fn methods_of(alloc: Global, count: u32) -> Result<Seq<MethodShape>, AllocError>
     Ok(methods)
 }
 
-/// The world of a chain of so many classes, the topmost of which has so many methods.
-fn world_of(alloc: Global, classes: u32, methods: u32) -> Result<World> {
+/// The world of a chain of so many classes, each with so many methods of other names; the topmost has so many
+/// methods in their place.
+fn world_of(alloc: Global, classes: u32, methods: u32, others: u32) -> Result<World> {
     let mut shapes = shapes_of(alloc, Family::Chain, classes)?;
+    for shape in &mut shapes {
+        shape.methods = methods_of(alloc, "other", others)?;
+    }
     let top = shapes.get_mut(1).context("no classes")?;
-    top.methods = methods_of(alloc, methods)?;
+    top.methods = methods_of(alloc, "method", methods)?;
     if !are_numbered(alloc, shapes.as_slice())? {
         bail!("no such world");
     }
@@ -54,7 +58,7 @@ fn refs_of(alloc: Global, classes: u32, methods: u32) -> Result<Vec<MethodRef>, 
     for number in 0..methods {
         refs.push(MethodRef {
             class: RefType::Class(name_of(alloc, lowest)?),
-            name: method_name(alloc, number)?,
+            name: method_name(alloc, "method", number)?,
             desc: plain_desc(alloc),
             interface: false,
         })?;
@@ -107,15 +111,16 @@ fn count_selected(alloc: Global, world: &World, number: u32, refs: &[MethodRef])
 }
 
 /// Resolves and selects each method of the topmost class of a chain, from its lowest class, so many times, and
-/// prints how many were resolved and selected.
+/// prints how many were resolved and selected. The other classes have so many methods of other names.
 pub fn measure_members(
     rt: &(impl Print + AllocGlobal),
     classes: u32,
     methods: u32,
+    others: u32,
     rounds: u32,
 ) -> Result<()> {
     let alloc = rt.alloc();
-    let world = world_of(alloc, classes, methods)?;
+    let world = world_of(alloc, classes, methods, others)?;
     let refs = refs_of(alloc, classes, methods)?;
     let mut selected = 0u64;
     for _ in 0..rounds {
