@@ -19,10 +19,13 @@ pub fn verified_methods_are_kind_safe()
     ensures kinds { (w : List Shape) (class : ClassFile) (id : MethodId) (body : Body) (framed : FramedBody) → IsVerified w class id body framed → IsKindSafe w framed }
 {}
 
-/// A method has one table at most, and where it has one there is no cause to refuse it.
+/// A method has one table at most, where it has one there is no cause to refuse it, and else there is one rule and
+/// one offset.
 pub fn methods_have_one_answer()
     ensures table { (w : List Shape) (class : ClassFile) (id : MethodId) (body : Body) (framed other : FramedBody) → AreDistinct class.pool class.methods
         → IsVerified w class id body framed → IsVerified w class id body other → framed ≡ other }
     ensures apart { (w : List Shape) (class : ClassFile) (id : MethodId) (body : Body) (framed : FramedBody) (rule : Rule) (pc : ℕ) → AreDistinct class.pool class.methods
         → IsVerified w class id body framed → IsUnverified w class id body rule pc → ⊥ }
+    ensures refusal { (w : List Shape) (class : ClassFile) (id : MethodId) (body : Body) (rule another : Rule) (pc other : ℕ) → AreDistinct class.pool class.methods
+        → IsUnverified w class id body rule pc → IsUnverified w class id body another other → (rule ≡ another) × (pc ≡ other) }
 {}

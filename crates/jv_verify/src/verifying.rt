@@ -89,6 +89,7 @@ pub fn verify(
     ensures verified { IfOk result (IsVerified world.now class.now id body.now) }
     ensures refused { IfErr result (IsCause world.now class.now id body.now) }
 {
+    // the class file has the method's code, so the other way is never gone
     let Some(code) = code_of(alloc, world, class, id)? else {
         return Err(VerifyRefusal::Memory);
     };
