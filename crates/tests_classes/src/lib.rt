@@ -9,10 +9,18 @@ mod bytes;
 #[cfg(test)]
 mod class;
 #[cfg(test)]
+mod codes;
+#[cfg(test)]
 mod desc;
 #[cfg(test)]
+mod names;
+#[cfg(test)]
 mod pool;
+#[cfg(test)]
+mod reading;
 #[cfg(test)]
 mod table;
 #[cfg(test)]
 mod types;
+#[cfg(test)]
+mod values;

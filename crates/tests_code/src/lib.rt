@@ -6,6 +6,8 @@ mod decoding;
 #[cfg(test)]
 mod encoding;
 #[cfg(test)]
+mod locals;
+#[cfg(test)]
 mod operands;
 #[cfg(test)]
 mod pools;
