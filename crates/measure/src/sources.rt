@@ -24,6 +24,32 @@ pub struct Sources {
     pub world: World,
 }
 
+/// What was read so far: the classes of the application with their names, and the shapes of all classes.
+#[derive(Drop)]
+struct Found {
+    classes: Vec<ReadClass>,
+    names: BTreeSet<Name>,
+    shapes: Vec<Shape>,
+}
+
+impl Found {
+    /// One class more of the application.
+    fn add(&mut self, class: ReadClass, shape: Shape) -> Result<()> {
+        self.names.insert(shape.name.copy()?)?;
+        self.shapes.push(shape)?;
+        self.classes.push(class)?;
+        Ok(())
+    }
+
+    /// One class more of the library, where the application has none of its name.
+    fn add_declared(&mut self, shape: Shape) -> Result<()> {
+        if !self.names.contains(&shape.name) {
+            self.shapes.push(shape)?;
+        }
+        Ok(())
+    }
+}
+
 /// The class of a file below a folder, and its shape.
 fn class_at<H: Host>(
     alloc: Global,
@@ -43,37 +69,35 @@ fn class_at<H: Host>(
     }
 }
 
-/// The classes of the files below a folder. Their shapes are added, and their names.
-fn application_at<H: Host>(
+/// Adds the class of a file below a folder, which is that of the application or that of the library.
+fn add_file<H: Host>(
     alloc: Global,
     host: &mut H,
     folder: &Name,
-    shapes: &mut Vec<Shape>,
-    known: &mut BTreeSet<Name>,
-) -> Result<Vec<ReadClass>> {
-    let mut classes = Vec::new(alloc);
-    for name in names_below(alloc, host, folder)? {
-        let (class, shape) = class_at(alloc, host, folder, &name, true)?;
-        known.insert(shape.name.copy()?)?;
-        shapes.push(shape)?;
-        classes.push(class)?;
+    name: &Name,
+    application: bool,
+    found: &mut Found,
+) -> Result<()> {
+    let (class, shape) = class_at(alloc, host, folder, name, application)?;
+    if application {
+        found.add(class, shape)
+    } else {
+        found.add_declared(shape)
     }
-    Ok(classes)
 }
 
-/// Adds the shapes of the files below a folder whose names aren't known yet.
-fn add_library<H: Host>(
+/// Adds the classes of the files below a folder.
+fn add_files<H: Host>(
     alloc: Global,
     host: &mut H,
-    folder: &Name,
-    shapes: &mut Vec<Shape>,
-    known: &BTreeSet<Name>,
+    folder: &str,
+    application: bool,
+    found: &mut Found,
 ) -> Result<()> {
-    for name in names_below(alloc, host, folder)? {
-        let (_, shape) = class_at(alloc, host, folder, &name, false)?;
-        if !known.contains(&shape.name) {
-            shapes.push(shape)?;
-        }
+    let folder = Name::from_slice(alloc, folder.as_bytes())?;
+    let names = names_below(alloc, host, &folder)?;
+    for name in &names {
+        add_file(alloc, host, &folder, name, application, found)?;
     }
     Ok(())
 }
@@ -109,12 +133,15 @@ pub fn sources_at<H: Host>(
     application: &str,
     library: &str,
 ) -> Result<Sources> {
-    let application = Name::from_slice(alloc, application.as_bytes())?;
-    let library = Name::from_slice(alloc, library.as_bytes())?;
-    let mut shapes = Vec::new(alloc);
-    let mut known = BTreeSet::new(alloc);
-    let classes = application_at(alloc, host, &application, &mut shapes, &mut known)?;
-    add_library(alloc, host, &library, &mut shapes, &known)?;
-    let world = world_of(alloc, shapes)?;
-    Ok(Sources { classes, world })
+    let mut found = Found {
+        classes: Vec::new(alloc),
+        names: BTreeSet::new(alloc),
+        shapes: Vec::new(alloc),
+    };
+    add_files(alloc, host, application, true, &mut found)?;
+    add_files(alloc, host, library, false, &mut found)?;
+    Ok(Sources {
+        classes: found.classes,
+        world: world_of(alloc, found.shapes)?,
+    })
 }

@@ -7,7 +7,7 @@ ghost use Rattle.jv_verify.specs.Verified.{IsNamedSo, HasBody};
 
 use crate::codes::MOST_BYTES;
 use crate::sources::ReadClass;
-use anyhow::{Result, bail, ensure};
+use anyhow::{Result, bail};
 use av_conditions::first_wrong;
 use jv_attr::CodeAttr;
 use jv_class::{ClassFile, Member, method_code};
@@ -93,10 +93,9 @@ pub fn outcome_of(alloc: Global, world: &World, class: &ReadClass, id: MethodId)
     let pool = &class.file.pool;
     let methods = class.file.methods.as_slice();
     let place = usize::from(id.index);
-    ensure!(
-        place < methods.len(),
-        "a method that the class doesn't have"
-    );
+    if place >= methods.len() {
+        bail!("a method that the class doesn't have");
+    }
     let member = &methods[place];
     let Some(code) = method_code(member) else {
         return Ok(Outcome::NoCode);
