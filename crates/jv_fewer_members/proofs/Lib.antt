@@ -6,3 +6,6 @@ mod Resolves
 mod Together
 mod Searches
 mod ResolvesMethods
+mod Overriders
+mod Selects
+mod SelectsSpecially

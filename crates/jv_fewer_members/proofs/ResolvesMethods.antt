@@ -164,10 +164,10 @@ module _ {w v : List Shape} {at : Places} (fewer : HasFewerMembers w v at) (keep
       }) in
       none own.0 (declares_part fewer r.name r.desc own.0 own.1 (subst (DeclaresMethod w r.name r.desc) own.2 p.0), sym (class_is at m own.0 own.2) ∙ p.1)
 
-  object_into : (name : List ℕ) (desc : MethodDesc) (n : MethodId) → IsObjectMethod v name desc n → IsObjectMethod w name desc (whole_method at n)
+  pub object_into : (name : List ℕ) (desc : MethodDesc) (n : MethodId) → IsObjectMethod v name desc n → IsObjectMethod w name desc (whole_method at n)
   object_into name desc n q = (declares_into fewer keeps.alike name desc n q.0, named (heads_back fewer) n.class.number object_name q.1, public_into fewer n q.2)
 
-  object_part : (name : List ℕ) (desc : MethodDesc) (m n : MethodId) → HasMethod v n → m ≡ whole_method at n → IsObjectMethod w name desc m → IsObjectMethod v name desc n
+  pub object_part : (name : List ℕ) (desc : MethodDesc) (m n : MethodId) → HasMethod v n → m ≡ whole_method at n → IsObjectMethod w name desc m → IsObjectMethod v name desc n
   object_part name desc m n has is p = (
     declares_part fewer name desc n has (subst (DeclaresMethod w name desc) is p.0),
     named (heads_into fewer) n.class.number object_name (subst (λ (c : ℕ). IsNamed w c object_name) (class_is at m n is) p.1),

@@ -4,8 +4,10 @@
 
 mod hierarchy;
 mod resolution;
+mod selection;
 
 pub use hierarchy::{classes_stay, instances_stay, supertypes_stay};
 pub use resolution::{
     fields_resolve_to_kept, interface_methods_resolve_to_kept, methods_resolve_to_kept,
 };
+pub use selection::calls_select_kept;
