@@ -1,14 +1,12 @@
 -- Searches depth first, in the whole world and in the part.
 use Rattle.std.proofs.Common.{◌≡◌, ℕ, zero, suc, ◌<◌, ◌≤◌, ◌⊎◌, List, ◌++◌, Option, Some, None, slice_get, refl, ap, ◌∙◌, subst, sym, inl, inr, arith}
 use Rattle.std.specs.Prelude.{option_to_list}
-use Rattle.std.proofs.lemmas.Bool.{cases_lt}
 use Rattle.jv_types.specs.declared.shapes.Shape.{Shape}
 use Rattle.jv_world.specs.Worlds.{HasSuper, IsNamed, IsWorld, ProperSub, Sub, same, link}
 use Rattle.jv_resolve.specs.DepthFirst.{direct_supers, IsFirst, IsFirstBy, IsFirstLeading, IsFirstWay, LeadsUpTo}
 use Rattle.jv_resolve.specs.Steps.Targets.{NoneLeads}
-use Rattle.jv_resolve.proofs.Going.{no_way, no_way_parent, super_from_place, way_interface, way_parent, way_super}
-use Rattle.jv_resolve.proofs.AboveLemmas.{first_holds}
-use Rattle.jv_resolve.proofs.Hierarchy.{one_shape, sub_cases}
+use Rattle.jv_resolve.proofs.Going.{no_way, no_way_parent, way_interface, way_parent, way_super}
+use Rattle.jv_resolve.proofs.Hierarchy.{sub_cases}
 use Rattle.jv_fewer_members.proofs.Heads.{IsSameHead, SameHeads, named, sub}
 
 first_above : (w : List Shape) (P : ℕ → Type 0) (n c d : ℕ) → IsFirstBy w P n c d → Sub w c d

@@ -1,7 +1,6 @@
 -- What needs no members: names, kinds, links, subtypes and instances. It is the same in two lists whose classes have
 -- the same heads, place for place.
-use Rattle.std.proofs.Common.{◌≡◌, ℕ, zero, suc, ◌<◌, ◌⊎◌, List, [], ◌∷◌, Some, length, Contains, slice_get, refl, sym, ap, ◌∙◌, subst, inl, inr, arith}
-use Rattle.std.specs.Prelude.{◌↔◌}
+use Rattle.std.proofs.Common.{◌≡◌, ℕ, zero, suc, ◌<◌, List, [], ◌∷◌, Some, length, Contains, slice_get, refl, sym, ap, ◌∙◌, subst, inl, inr, arith}
 use Rattle.std.proofs.lemmas.Option.{same_Some, slice_get_within}
 use Rattle.jv_types.specs.declared.desc.RefType.{RefType, Class, PrimArray, Array', Row_of-RefType, end_of-RefType, more_of-RefType}
 use Rattle.jv_types.specs.declared.label.LibBase.{LibBase}
@@ -9,7 +8,7 @@ use Rattle.jv_types.specs.declared.label.LibBase.TheVariants.{Class as LibClass,
 use Rattle.jv_types.specs.declared.shapes.Shape.{Shape}
 use Rattle.jv_world.specs.Instances.{IsArrayOf, IsArraySuperBase, IsBaseInstance, IsInstanceInDims, IsInstanceOf, IsInstanceOfClass, IsInterfaceNamed, IsSubNamed}
 use Rattle.jv_world.specs.Worlds.{Climbs, HasInterface, HasSuper, HasSuperclass, IsInterface, IsNamed, IsSubclass, ProperSub, Sub, same, link}
-use Rattle.jv_resolve.specs.Access.{IsClassAccessible, IsPublicClass}
+use Rattle.jv_resolve.specs.Access.{IsClassAccessible}
 use Rattle.jv_resolve.specs.Members.{IsInterfaceClass, IsPublic}
 use Rattle.jv_resolve.specs.Packages.{AreInOnePackage, package_of}
 use Rattle.jv_resolve.specs.References.{IsInterfaceType}

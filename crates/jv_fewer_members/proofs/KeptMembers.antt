@@ -1,5 +1,5 @@
 -- Members of the part, and the same ones in the whole world.
-use Rattle.std.proofs.Common.{◌≡◌, ℕ, ◌<◌, ◌⊎◌, List, Some, length, slice_get, refl, sym, ap, ◌∙◌, subst, inl, inr}
+use Rattle.std.proofs.Common.{◌≡◌, ℕ, ◌<◌, List, Some, length, slice_get, refl, sym, ap, ◌∙◌, subst}
 use Rattle.std.proofs.lemmas.Option.{slice_get_within}
 use Rattle.jv_types.specs.declared.desc.Desc.{Desc}
 use Rattle.jv_types.specs.declared.desc.MethodDesc.{MethodDesc}
@@ -11,9 +11,9 @@ use Rattle.jv_types.specs.declared.shapes.Shape.{Shape}
 use Rattle.jv_resolve.specs.Members.{DeclaresField, DeclaresMethod, HasField, HasMethod, IsConcrete, IsField, IsFieldCalled, IsInheritable, IsMethod, IsMethodCalled}
 use Rattle.jv_resolve.specs.Resolving.{IsPublicInstance}
 use Rattle.jv_resolve.proofs.Hierarchy.{one_shape}
-use Rattle.jv_resolve.proofs.MembersLemmas.{field_is, method_is, one_method}
+use Rattle.jv_resolve.proofs.MembersLemmas.{method_is, one_method}
 use Rattle.jv_two_worlds.specs.SameClasses.{IsSameField, IsSameMethod}
-use Rattle.jv_fewer_members.specs.Keeping.{IsCalled, IsInstanceMethod, KeepsAlike}
+use Rattle.jv_fewer_members.specs.Keeping.{IsInstanceMethod, KeepsAlike}
 use Rattle.jv_fewer_members.specs.Parts.{HasFewerMembers, IsFieldKept, IsMethodKept, Places, whole_field, whole_method}
 use Rattle.jv_fewer_members.proofs.Heads.{part_back}
 use Rattle.jv_fewer_members.proofs.Somes.{none_into, none_back, one_place}

@@ -1,5 +1,5 @@
 -- Resolution in the whole world and in the part.
-use Rattle.std.proofs.Common.{◌≡◌, ℕ, List, refl, sym, ap, ◌∙◌, subst}
+use Rattle.std.proofs.Common.{◌≡◌, ℕ, List, refl, sym, ap, subst}
 use Rattle.std.specs.Prelude.{◌↔◌}
 use Rattle.jv_types.specs.declared.desc.Desc.{Desc}
 use Rattle.jv_types.specs.declared.ids.FieldId.{FieldId}

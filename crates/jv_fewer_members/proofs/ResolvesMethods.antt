@@ -1,5 +1,5 @@
 -- Resolution of methods in the whole world and in the part.
-use Rattle.std.proofs.Common.{◌≡◌, ◌≢◌, ℕ, zero, suc, ◌<◌, ◌≤◌, ◌⊎◌, List, Option, Some, refl, sym, ap, ◌∙◌, subst, inl, inr, arith}
+use Rattle.std.proofs.Common.{◌≡◌, ◌≢◌, ℕ, zero, ◌≤◌, List, Option, Some, refl, sym, ◌∙◌, subst, inl, inr, arith}
 use Rattle.std.specs.Prelude.{◌↔◌, unwrap_or}
 use Rattle.jv_types.specs.declared.desc.MethodDesc.{MethodDesc}
 use Rattle.jv_types.specs.declared.ids.MethodId.{MethodId}
@@ -8,7 +8,7 @@ use Rattle.jv_types.specs.declared.shapes.Shape.{Shape}
 use Rattle.jv_world.specs.Worlds.{Climbs, IsNamed, IsWorld, ProperSub, object_name}
 use Rattle.jv_resolve.specs.declared.refusal.ResolveRefusal.{ResolveRefusal}
 use Rattle.jv_resolve.specs.declared.refusal.ResolveRefusal.TheVariants.{WrongKind, NotFound, NoAccess, Memory}
-use Rattle.jv_resolve.specs.Inheriting.{HasNone, IsNearest, IsSuperinterfaceMethod}
+use Rattle.jv_resolve.specs.Inheriting.{IsSuperinterfaceMethod}
 use Rattle.jv_resolve.specs.Members.{init_name, DeclaresMethod, HasMethod, IsInterfaceClass, IsMethodCalled}
 use Rattle.jv_resolve.specs.References.{named_class, BeginsAt, IsInterfaceType}
 use Rattle.jv_resolve.specs.Refusals.{IsInterfaceMethodUnresolved, IsMethodUnresolved}

@@ -1,21 +1,18 @@
 -- Searches along superclasses and among superinterfaces, in the whole world and in the part.
-use Rattle.std.proofs.Common.{◌≡◌, ℕ, zero, suc, ◌<◌, ◌≤◌, ◌⊎◌, List, length, refl, sym, ap, ◌∙◌, subst, inl, inr, arith}
-use Rattle.std.specs.Prelude.{◌↔◌}
+use Rattle.std.proofs.Common.{◌≡◌, ℕ, zero, suc, ◌<◌, ◌≤◌, ◌⊎◌, List, sym, ap, ◌∙◌, subst, inl, inr, arith}
 use Rattle.jv_types.specs.declared.desc.MethodDesc.{MethodDesc}
 use Rattle.jv_types.specs.declared.ids.MethodId.{MethodId}
 use Rattle.jv_types.specs.declared.shapes.Shape.{Shape}
 use Rattle.jv_world.specs.Worlds.{Climbs, ProperSub, Sub, same, link}
-use Rattle.jv_resolve.specs.Inheriting.{HasNone, HasNoSingleDefault, IsInterfaceMethod, IsMaximallySpecific, IsNearest, IsSingleDefault, IsSuperinterfaceMethod}
+use Rattle.jv_resolve.specs.Inheriting.{HasNone, HasNoSingleDefault, IsMaximallySpecific, IsNearest, IsSingleDefault, IsSuperinterfaceMethod}
 use Rattle.jv_resolve.specs.Members.{DeclaresMethod, HasMethod, IsConcrete, IsInheritable, IsInterfaceClass}
 use Rattle.jv_resolve.specs.DepthFirst.{IsFirst}
 use Rattle.jv_resolve.specs.Resolving.{DeclaresFor, ResolvesAbove}
-use Rattle.jv_resolve.specs.Selecting.{SelectsBy}
 use Rattle.jv_resolve.proofs.AboveLemmas.{first_holds}
 use Rattle.jv_resolve.proofs.Hierarchy.{sub_from_proper}
 use Rattle.jv_resolve.proofs.MembersLemmas.{declared_here, declares_one}
-use Rattle.jv_two_worlds.specs.Agreeing.{Agree}
-use Rattle.jv_fewer_members.specs.Keeping.{IsCalled, KeepsAlike}
-use Rattle.jv_fewer_members.specs.Parts.{HasFewerMembers, IsMethodKept, Places, whole_method}
+use Rattle.jv_fewer_members.specs.Keeping.{KeepsAlike}
+use Rattle.jv_fewer_members.specs.Parts.{HasFewerMembers, Places, whole_method}
 use Rattle.jv_fewer_members.proofs.FirstWays.{first_into}
 use Rattle.jv_fewer_members.proofs.Heads.{heads_into, heads_back, climbs, proper, interface_class}
 use Rattle.jv_fewer_members.proofs.KeptMembers.{concrete_into, concrete_back, declares_into, declares_part, inheritable_into, inheritable_back, one_whole}

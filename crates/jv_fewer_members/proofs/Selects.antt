@@ -1,29 +1,21 @@
 -- What a call runs, in the whole world and in the part.
-use Rattle.std.proofs.Common.{◌≡◌, ◌≢◌, ℕ, suc, ◌⊎◌, List, Option, Some, None, slice_get, refl, sym, ap, ◌∙◌, subst, inl, inr}
-use Rattle.std.specs.Prelude.{MatchOption, unwrap_or}
+use Rattle.std.proofs.Common.{◌≡◌, ℕ, ◌⊎◌, List, refl, sym, ap, ◌∙◌, subst, inl, inr}
 use Rattle.jv_types.specs.declared.desc.MethodDesc.{MethodDesc}
 use Rattle.jv_types.specs.declared.ids.MethodId.{MethodId}
-use Rattle.jv_types.specs.declared.references.MethodRef.{MethodRef}
 use Rattle.jv_types.specs.declared.shapes.MethodShape.{MethodShape}
 use Rattle.jv_types.specs.declared.shapes.Shape.{Shape}
-use Rattle.jv_world.specs.Worlds.{object_name, Climbs, HasSuperclass, IsFinal, IsInterface, IsNamed, IsWorld, Sub, same, link}
+use Rattle.jv_world.specs.Worlds.{Sub}
 use Rattle.jv_resolve.specs.Inheriting.{HasNone, IsNearest, IsSingleDefault}
-use Rattle.jv_resolve.specs.Members.{init_name, DeclaresMethod, HasMethod, IsConcrete, IsInterfaceClass, IsMethod, IsPrivate}
-use Rattle.jv_resolve.specs.References.{named_class, BeginsAt}
-use Rattle.jv_resolve.specs.Resolving.{IsObjectMethod, ResolvesInClass, ResolvesInInterface, ResolvesInterfaceMethod, ResolvesMethod}
-use Rattle.jv_resolve.specs.Selecting.{FindsInInterface, IsCandidate, IsOverrider, IsSpecial, IsSpecialCandidate, IsSuperCall, SelectsBy, SelectsFrom, SelectsInInterface, SelectsInterface, SelectsSpecial, SelectsVirtual, SpecialStart}
-use Rattle.jv_resolve.proofs.Hierarchy.{not_below_itself, one_shape, sub_from_proper, sub_itself, sub_trans}
-use Rattle.jv_resolve.proofs.MembersLemmas.{declared_here, declares_one, one_method}
-use Rattle.jv_resolve.proofs.PlacesLemmas.{among_from_get}
-use Rattle.jv_resolve.proofs.SpecialLemmas.{superclass_from}
+use Rattle.jv_resolve.specs.Members.{HasMethod, IsConcrete, IsMethod}
+use Rattle.jv_resolve.specs.Overriding.{Overrides}
+use Rattle.jv_resolve.specs.Selecting.{IsCandidate, IsOverrider, SelectsBy, SelectsInterface, SelectsVirtual}
+use Rattle.jv_resolve.proofs.MembersLemmas.{declared_here, one_method}
 use Rattle.jv_two_worlds.specs.Agreeing.{Agree}
-use Rattle.jv_fewer_members.specs.Keeping.{class_init_name, IsCalled, IsInstanceMethod, IsSelectable, KeepsAlike, KeepsMembers}
-use Rattle.jv_fewer_members.specs.Parts.{HasFewerMembers, IsMethodKept, Places, whole_method}
-use Rattle.jv_fewer_members.proofs.Heads.{SameHeads, heads_into, heads_back, climbs, interface_class, named, superclass}
-use Rattle.jv_fewer_members.proofs.KeptMembers.{called_back, concrete_into, concrete_back, declares_into, declares_part, inheritable_into, method_part, method_whole, instance_into}
+use Rattle.jv_fewer_members.specs.Keeping.{IsCalled, IsSelectable, KeepsMembers}
+use Rattle.jv_fewer_members.specs.Parts.{HasFewerMembers, Places, whole_method}
+use Rattle.jv_fewer_members.proofs.KeptMembers.{concrete_into, concrete_back, declares_into, inheritable_into, method_part, method_whole, instance_into}
 use Rattle.jv_fewer_members.proofs.Overriders.{overrides_into, overrides_back}
-use Rattle.jv_fewer_members.proofs.ResolvesMethods.{object_into, object_part}
-use Rattle.jv_fewer_members.proofs.Searches.{AgreeAbove, above_method, class_is, climbs_above, default_into, default_back, inherited_back, nearest_into, nearest_back, none_into, none_back}
+use Rattle.jv_fewer_members.proofs.Searches.{AgreeAbove, class_is, default_into, default_back, inherited_back, nearest_into, nearest_back, none_into, none_back}
 use Rattle.jv_fewer_members.proofs.Together.{KeepsAbove, keeps_above}
 
 -- what holds of a name and a descriptor holds of their equals

@@ -7,11 +7,10 @@ use Rattle.jv_types.specs.declared.references.MethodRef.{MethodRef}
 use Rattle.jv_types.specs.declared.shapes.MethodShape.{MethodShape}
 use Rattle.jv_types.specs.declared.shapes.Shape.{Shape}
 use Rattle.jv_world.specs.Worlds.{object_name, HasSuperclass, IsFinal, IsInterface, IsNamed, IsWorld, Sub, same, link}
-use Rattle.jv_resolve.specs.Inheriting.{IsSingleDefault}
 use Rattle.jv_resolve.specs.Members.{DeclaresMethod, HasMethod, IsConcrete, IsInterfaceClass, IsMethod, IsPrivate, IsStatic}
 use Rattle.jv_resolve.specs.References.{named_class, BeginsAt}
 use Rattle.jv_resolve.specs.Resolving.{IsObjectMethod, ResolvesInClass, ResolvesInInterface, ResolvesInterfaceMethod, ResolvesMethod}
-use Rattle.jv_resolve.specs.Selecting.{FindsInInterface, IsSpecial, IsSpecialCandidate, IsSuperCall, SelectsBy, SelectsFrom, SelectsInInterface, SelectsSpecial, SpecialStart}
+use Rattle.jv_resolve.specs.Selecting.{FindsInInterface, IsSpecial, IsSpecialCandidate, IsSuperCall, SelectsFrom, SelectsInInterface, SelectsSpecial, SpecialStart}
 use Rattle.jv_resolve.proofs.Hierarchy.{not_below_itself, one_shape, sub_from_proper, sub_itself, sub_trans}
 use Rattle.jv_resolve.proofs.MembersLemmas.{declared_here, declares_one, one_method}
 use Rattle.jv_resolve.proofs.MethodLemmas.{class_declares, interface_declares}
@@ -19,7 +18,7 @@ use Rattle.jv_resolve.proofs.PlacesLemmas.{among_from_get}
 use Rattle.jv_resolve.proofs.SpecialLemmas.{superclass_from}
 use Rattle.jv_two_worlds.specs.Agreeing.{Agree}
 use Rattle.jv_fewer_members.specs.Keeping.{IsSelectable, KeepsMembers}
-use Rattle.jv_fewer_members.specs.Parts.{HasFewerMembers, IsMethodKept, Places, whole_method}
+use Rattle.jv_fewer_members.specs.Parts.{HasFewerMembers, Places, whole_method}
 use Rattle.jv_fewer_members.proofs.Heads.{SameHeads, heads_into, heads_back, climbs, interface_class, named, superclass}
 use Rattle.jv_fewer_members.proofs.KeptMembers.{concrete_into, concrete_back, declares_into, declares_part, method_part, method_whole}
 use Rattle.jv_fewer_members.proofs.ResolvesMethods.{object_into, object_part}

@@ -1,14 +1,12 @@
 -- What is kept together: each method of a name and a descriptor that a class can inherit, once one of them is kept.
-use Rattle.std.proofs.Common.{◌≡◌, ◌≢◌, ℕ, ◌<◌, ◌⊎◌, Bool, true, false, List, [], ◌∷◌, Some, length, slice_get, refl, sym, ap, ◌∙◌, subst, inl, inr, arith}
+use Rattle.std.proofs.Common.{◌≡◌, ◌≢◌, ℕ, ◌⊎◌, Bool, true, false, List, Some, slice_get, refl, sym, ◌∙◌, subst, inl, inr}
 use Rattle.std.specs.Prelude.{IsTrue}
 use Rattle.std.proofs.lemmas.Bool.{false≢true}
-use Rattle.std.proofs.lemmas.Option.{slice_get_within}
 use Rattle.jv_types.specs.declared.desc.MethodDesc.{MethodDesc}
 use Rattle.jv_types.specs.declared.ids.MethodId.{MethodId}
-use Rattle.jv_types.specs.declared.shapes.MethodShape.{MethodShape}
 use Rattle.jv_types.specs.declared.shapes.Shape.{Shape}
 use Rattle.jv_world.specs.Worlds.{Sub, same, link}
-use Rattle.jv_resolve.specs.Members.{init_name, HasMethod, IsInheritable, IsMethod}
+use Rattle.jv_resolve.specs.Members.{init_name, IsInheritable}
 use Rattle.jv_resolve.proofs.Hierarchy.{one_shape}
 use Rattle.jv_fewer_members.specs.Keeping.{class_init_name, IsApart, IsApplication, IsCalled, IsInstanceMethod, IsLibrary, KeepsMembers}
 use Rattle.jv_fewer_members.specs.Parts.{IsMethodKept, Places}
