@@ -60,8 +60,8 @@ no_first_below w P world (suc n) c low none leads =
     let not_here : P c → ⊥ = λ p. none c (0, (refl, p)) in
     nowhere_up w P c not_here
     (λ d way.
-        let falls = world.falls c d (way_super w P c d way) in
-        no_first_below w P world n d (omega (arith, low, falls)) (λ e p. none e (suc p.0, (not_here, d, way, p.1))) way.2.leads)
+    let falls = world.falls c d (way_super w P c d way) in
+    no_first_below w P world n d (omega (arith, low, falls)) (λ e p. none e (suc p.0, (not_here, d, way, p.1))) way.2.leads)
     leads.0 leads.2 (sub_cases w c leads.0 leads.1)
 
 pub no_first : (w : List Shape) (P : ℕ → Type 0) → IsWorld w → (c : ℕ) → ((d : ℕ) → IsFirst w P c d → ⊥) → LeadsUpTo w P c → ⊥
@@ -114,11 +114,11 @@ module _ {w v : List Shape} (world : IsWorld w) (into : SameHeads w v) (back : S
           leads = (way.2.leads.0, sub back e way.2.leads.0 way.2.leads.1, only way.2.leads.0 way.2.leads.2);
           before = λ k other x lt got at_name leads.
               no_leading w P (direct_supers s.0) k (λ d first le.
-                  no_first w P world d (λ y found.
-                      let all : IsFirst w P c y = (suc found.0, (not_here, d, (s.0, s.1, first), found.1)) in
-                      let place : slice_get (direct_supers way.0) first.place ≡ Some first.name = subst (λ (l : List (List ℕ)). slice_get l first.place ≡ Some first.name) (sym names) first.at_place in
-                      way.2.before first.place first.name d (omega (arith, lt, le)) place (named into d first.name first.named) (y, sub into d y (first_above w P found.0 d y found.1), kept y all))
-                  first.leads)
+              no_first w P world d (λ y found.
+              let all : IsFirst w P c y = (suc found.0, (not_here, d, (s.0, s.1, first), found.1)) in
+              let place : slice_get (direct_supers way.0) first.place ≡ Some first.name = subst (λ (l : List (List ℕ)). slice_get l first.place ≡ Some first.name) (sym names) first.at_place in
+              way.2.before first.place first.name d (omega (arith, lt, le)) place (named into d first.name first.named) (y, sub into d y (first_above w P found.0 d y found.1), kept y all))
+              first.leads)
               k other x (omega arith) got at_name leads;
         },
       )

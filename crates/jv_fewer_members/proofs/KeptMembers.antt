@@ -137,9 +137,9 @@ module _ {w v : List Shape} {at : Places} (fewer : HasFewerMembers w v at) where
           first =
               none_into c.2.methods (IsMethodCalled name desc) (called_into name desc)
               (λ j y got p.
-                  let m : MethodId = record { class = n.class; index = j } in
-                  method_kept_at v at m q.class q.of_class
-                  (alike.methods (whole_method at n) m r.0 y refl (c.0, c.1, r.1) (c.0, c.1, got) (p.0 ∙ sym called.0, p.1 ∙ sym called.1) (n, (q.shape, (q.class, q.of_class, q.at_place)), refl)))
+              let m : MethodId = record { class = n.class; index = j } in
+              method_kept_at v at m q.class q.of_class
+              (alike.methods (whole_method at n) m r.0 y refl (c.0, c.1, r.1) (c.0, c.1, got) (p.0 ∙ sym called.0, p.1 ∙ sym called.1) (n, (q.shape, (q.class, q.of_class, q.at_place)), refl)))
               n.index
               (slice_get_within q.class.methods n.index q.shape q.at_place)
               q.first;
@@ -158,9 +158,9 @@ module _ {w v : List Shape} {at : Places} (fewer : HasFewerMembers w v at) where
           first =
               none_into c.2.fields (IsFieldCalled name desc) (field_called_into name desc)
               (λ j y got p.
-                  let m : FieldId = record { class = n.class; index = j } in
-                  field_kept_at v at m q.class q.of_class
-                  (alike.fields (whole_field at n) m r.0 y refl (c.0, c.1, r.1) (c.0, c.1, got) (p.0 ∙ sym called.0, p.1 ∙ sym called.1) (n, (q.shape, (q.class, q.of_class, q.at_place)), refl)))
+              let m : FieldId = record { class = n.class; index = j } in
+              field_kept_at v at m q.class q.of_class
+              (alike.fields (whole_field at n) m r.0 y refl (c.0, c.1, r.1) (c.0, c.1, got) (p.0 ∙ sym called.0, p.1 ∙ sym called.1) (n, (q.shape, (q.class, q.of_class, q.at_place)), refl)))
               n.index
               (slice_get_within q.class.fields n.index q.shape q.at_place)
               q.first;

@@ -9,3 +9,5 @@ mod ResolvesMethods
 mod Overriders
 mod Selects
 mod SelectsSpecially
+mod Accesses
+mod PartWorlds

@@ -44,10 +44,10 @@ module _ {w v : List Shape} {at : Places} (fewer : HasFewerMembers w v at) (alik
         first =
             first_back fewer.world (heads_into fewer) (heads_back fewer) (declaring_into r.name r.desc) q.named g.class.number
             (λ e first.
-                let f = first_holds w (DeclaresFieldIn w r.name r.desc) q.named e first in
-                let here : IsFirst w (DeclaresFieldIn w r.name r.desc) q.named f.0.class.number = subst (IsFirst w (DeclaresFieldIn w r.name r.desc) q.named) (sym f.2) first in
-                subst (DeclaresFieldIn v r.name r.desc) f.2
-                (declaring_back r.name r.desc f.0 f.1 (keeps f.0 (record { named = q.named; name = named_back; declared = f.1; first = here }))))
+            let f = first_holds w (DeclaresFieldIn w r.name r.desc) q.named e first in
+            let here : IsFirst w (DeclaresFieldIn w r.name r.desc) q.named f.0.class.number = subst (IsFirst w (DeclaresFieldIn w r.name r.desc) q.named) (sym f.2) first in
+            subst (DeclaresFieldIn v r.name r.desc) f.2
+            (declaring_back r.name r.desc f.0 f.1 (keeps f.0 (record { named = q.named; name = named_back; declared = f.1; first = here }))))
             q.first;
       }
 

@@ -66,10 +66,10 @@ module _ {w v : List Shape} {at : Places} (fewer : HasFewerMembers w v at) (keep
   none_nearer r start begins no_interface kept init k none m up p =
       no_nearest w (DeclaresMethod w r.name r.desc) start k
       (λ near q le.
-          let own = kept near (record { start = start; begins = begins; no_interface = no_interface; found = inl q; init = other_name w r near init }) in
-          none q.links own.0 le
-          (subst (Climbs v q.links start) (class_is at near own.0 own.2) (climbs (heads_into fewer) q.links start near.class.number q.leads))
-          (declares_part fewer r.name r.desc own.0 own.1 (subst (DeclaresMethod w r.name r.desc) own.2 q.meets)))
+      let own = kept near (record { start = start; begins = begins; no_interface = no_interface; found = inl q; init = other_name w r near init }) in
+      none q.links own.0 le
+      (subst (Climbs v q.links start) (class_is at near own.0 own.2) (climbs (heads_into fewer) q.links start near.class.number q.leads))
+      (declares_part fewer r.name r.desc own.0 own.1 (subst (DeclaresMethod w r.name r.desc) own.2 q.meets)))
       m up p
 
   method_into : (r : MethodRef) → KeepsMethod w v at r → r.name ≢ class_init_name → (n : MethodId) → ResolvesMethod v r n → ResolvesMethod w r (whole_method at n)

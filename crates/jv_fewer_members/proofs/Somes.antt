@@ -5,7 +5,7 @@ use Rattle.std.proofs.lemmas.Option.{same_Some}
 use Rattle.jv_world.specs.MemberPlaces.{NoneBelow}
 use Rattle.jv_fewer_members.specs.Parts.{AreSomeOf}
 
-element_of : {X : Type 0} (xs : List X) (k : ℕ) → k < length xs → (x : X) × (slice_get xs k ≡ Some x)
+pub element_of : {X : Type 0} (xs : List X) (k : ℕ) → k < length xs → (x : X) × (slice_get xs k ≡ Some x)
 element_of [] k lt = absurd (omega (arith, lt))
 element_of (x ∷ xs) zero lt = (x, refl)
 element_of (x ∷ xs) (suc k) lt = element_of xs k (omega (arith, lt))

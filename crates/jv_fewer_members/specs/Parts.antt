@@ -4,7 +4,7 @@ use Rattle.std.specs.Prelude.{◌≡◌, ◌↔◌, ℕ, ◌<◌, List, Some, le
 use Rattle.jv_types.specs.declared.ids.FieldId.{FieldId}
 use Rattle.jv_types.specs.declared.ids.MethodId.{MethodId}
 use Rattle.jv_types.specs.declared.shapes.Shape.{Shape}
-use Rattle.jv_world.specs.Worlds.{IsInterface, IsWorld}
+use Rattle.jv_world.specs.Worlds.{IsFinal, IsInterface, IsWorld}
 use Rattle.jv_resolve.specs.Members.{HasField, HasMethod, IsPublic}
 use Rattle.jv_two_worlds.specs.SameClasses.{IsSameField, IsSameMethod}
 
@@ -33,6 +33,10 @@ pub record HasFewerMembers (w v : List Shape) (at : Places) : Type 0 where
   pub world : IsWorld w
   pub count : length v ≡ length w
   pub shapes : (c : ℕ) (shape : Shape) → slice_get w c ≡ Some shape → (part : Shape) × (slice_get v c ≡ Some part) × IsPartOf shape part (at.of_field c) (at.of_method c)
+
+-- a class is final in both, or in neither
+abbrev pub HaveSameFinals : List Shape → List Shape → Type 0
+HaveSameFinals w v = (c : ℕ) (shape part : Shape) → slice_get w c ≡ Some shape → slice_get v c ≡ Some part → IsFinal shape ↔ IsFinal part
 
 -- the same field in the whole class
 abbrev pub whole_field : Places → FieldId → FieldId

@@ -5,9 +5,14 @@ ghost use Rattle.jv_types.specs.declared.desc.RefType.{RefType};
 ghost use Rattle.jv_types.specs.declared.label.LibBase.{LibBase};
 ghost use Rattle.jv_types.specs.declared.shapes.Shape.{Shape};
 ghost use Rattle.jv_world.specs.Instances.{IsInstanceInDims, IsInstanceOf, IsInterfaceNamed, IsSubNamed};
-ghost use Rattle.jv_world.specs.Worlds.{HasSuperclass, IsNamed, IsSubclass, ProperSub, Sub};
+ghost use Rattle.jv_world.specs.Worlds.{HasSuperclass, IsNamed, IsSubclass, IsWorld, ProperSub, Sub};
 ghost use Rattle.jv_resolve.specs.Members.{IsInterfaceClass};
-ghost use Rattle.jv_fewer_members.specs.Parts.{HasFewerMembers, Places};
+ghost use Rattle.jv_fewer_members.specs.Parts.{HasFewerMembers, HaveSameFinals, Places};
+
+/// The part is a world too, where its classes are final as those of the whole are (JVMS 5.3.5).
+pub fn parts_are_worlds()
+    ensures { (w v : List Shape) (at : Places) → HasFewerMembers w v at → HaveSameFinals w v → IsWorld v }
+{}
 
 /// A class has its name and its kind in the part too (JVMS 4.1).
 pub fn classes_stay()
