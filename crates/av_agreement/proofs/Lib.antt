@@ -1,0 +1,4 @@
+mod Picked
+mod Paired
+mod Kept
+mod Agreeing

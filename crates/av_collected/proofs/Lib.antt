@@ -1,0 +1,5 @@
+mod Lists
+mod Ranked
+mod Parts
+mod Growing
+mod Ending

@@ -1,0 +1,9 @@
+pub mod Types
+pub mod Libraries
+pub mod Naming
+pub mod Rules
+pub mod Rounds
+pub mod Dimensions
+pub mod Answers
+pub mod Conditions
+pub mod Sources
