@@ -37,8 +37,8 @@ get_front (y ∷ xs) ys zero x e = e
 get_front (y ∷ xs) ys (suc k) x e = get_front xs ys k x e
 
 get_behind : (xs ys : List Shape) (k : ℕ) → slice_get (xs ++ ys) (length xs + k) ≡ slice_get ys k
-get_behind [] ys k = ap (slice_get ys) (omega arith)
-get_behind (x ∷ xs) ys k = ap (slice_get (x ∷ xs ++ ys)) (omega arith) ∙ get_behind xs ys k
+get_behind [] ys k = let e : length {A = Shape} [] + k ≡ k = omega arith in ap (slice_get ys) e
+get_behind (x ∷ xs) ys k = let e : length (x ∷ xs) + k ≡ suc (length xs + k) = omega arith in ap (slice_get (x ∷ (xs ++ ys))) e ∙ get_behind xs ys k
 
 -- an element of both lists together is one of the one, or stands in the other
 get_parts : (xs ys : List Shape) (k : ℕ) (x : Shape) → slice_get (xs ++ ys) k ≡ Some x → (slice_get xs k ≡ Some x) ⊎ ((j : ℕ) × (slice_get ys j ≡ Some x))
@@ -51,14 +51,14 @@ placed v s p = slice_get-get_or v p.0 s p.1 ∙ ap (λ (x : Shape). Some x) p.2
 
 module _ (given : Application) (library : List LibraryFile) (found : Collected) where
   -- a member is collected, where its class is one of the library
-  FieldIn : Shape → ℕ → Type 0
+  abbrev FieldIn : Shape → ℕ → Type 0
   FieldIn s k = IsOfLibrary given.shapes s.name → IsCollected given library (FieldAt s.name k)
 
-  MethodIn : Shape → ℕ → Type 0
+  abbrev MethodIn : Shape → ℕ → Type 0
   MethodIn s k = IsOfLibrary given.shapes s.name → IsCollected given library (MethodAt s.name k)
 
   -- a class of the application, or a collected class
-  IsOne : Shape → Type 0
+  abbrev IsOne : Shape → Type 0
   IsOne s = Contains given.shapes s ⊎ (Contains found.full s × IsOfLibrary given.shapes s.name)
 
   module _ (are_given : AreGiven given) (map : IsLibraryMap library) (collected : AreCollected given library found) (passed : FailsNot given library)
@@ -106,6 +106,7 @@ module _ (given : Application) (library : List LibraryFile) (found : Collected) 
     places = (paired FieldIn MethodIn (whole_classes given found) (collected_classes given found) zipped).0
 
     pairs : ArePaired FieldIn MethodIn (whole_classes given found) (collected_classes given found) places
+    unfolding places
     pairs = (paired FieldIn MethodIn (whole_classes given found) (collected_classes given found) zipped).1
 
     pub fewer : HasFewerMembers (whole_classes given found) (collected_classes given found) places
@@ -217,13 +218,13 @@ module _ (given : Application) (library : List LibraryFile) (found : Collected) 
         let shape : lib.0 ≡ p.0 = one_shape (whole_classes given found) m.class.number lib.0 p.0 lib.1 p.1 in
         let there : Contains found.full p.0 = subst (Contains found.full) shape full.0 in
         method_kept m x p (λ of.
-            of_nothing (MethodAt p.0.name m.index)
-            (inherited_method p.0.name m.index x
-            (above c m.class.number up app.0 app.1 (own app.0 (in_given c app)) p.0 p.1)
-            of
-            (p.0, in_library p.0 there, p.2)
-            (inherits.2, inherits.3)
-            ((λ e. init (sym named ∙ e)), λ e. class_init (sym named ∙ e))))
+        of_nothing (MethodAt p.0.name m.index)
+        (inherited_method p.0.name m.index x
+        (above c m.class.number up app.0 app.1 (own app.0 (in_given c app)) p.0 p.1)
+        of
+        (p.0, in_library p.0 there, p.2)
+        (inherits.2, inherits.3)
+        ((λ e. init (sym named ∙ e)), λ e. class_init (sym named ∙ e))))
 
     same_kept : (m other : MethodId) (name : List ℕ) (desc : MethodDesc) → IsLibrary (whole_classes given found) m.class.number → IsMethodKept (collected_classes given found) places m
         → IsInstanceMethod (whole_classes given found) m name desc → name ≢ init_name → IsLibrary (whole_classes given found) other.class.number → IsInheritable (whole_classes given found) other
@@ -240,17 +241,17 @@ module _ (given : Application) (library : List LibraryFile) (found : Collected) 
         let shape : other_lib.0 ≡ p.0 = one_shape (whole_classes given found) other.class.number other_lib.0 p.0 other_lib.1 p.1 in
         let there : Contains found.full p.0 = subst (Contains found.full) shape (in_full other.class.number other_lib).0 in
         method_kept other x p (λ of.
-            of_two (ClassNamed p.0.name) (MethodAt q.0.name m.index) (MethodAt p.0.name other.index)
-            (collected.each p.0 there).0
-            (kept_method m is.0 q kept own_lib)
-            (same_signature p.0.name other.index x q.0.name m.index is.0
-            (p.0, in_library p.0 there, p.2)
-            (inherits.2, inherits.3)
-            (q.0, in_library q.0 own_there, q.2)
-            is.3
-            (λ e. init (sym is.2.0 ∙ e))
-            (sym (ap (λ (y : MethodShape). y.name) called_is) ∙ called.2.0 ∙ sym is.2.0)
-            (sym (ap (λ (y : MethodShape). y.desc) called_is) ∙ called.2.1 ∙ sym is.2.1)))
+        of_two (ClassNamed p.0.name) (MethodAt q.0.name m.index) (MethodAt p.0.name other.index)
+        (collected.each p.0 there).0
+        (kept_method m is.0 q kept own_lib)
+        (same_signature p.0.name other.index x q.0.name m.index is.0
+        (p.0, in_library p.0 there, p.2)
+        (inherits.2, inherits.3)
+        (q.0, in_library q.0 own_there, q.2)
+        is.3
+        (λ e. init (sym is.2.0 ∙ e))
+        (sym (ap (λ (y : MethodShape). y.name) called_is) ∙ called.2.0 ∙ sym is.2.0)
+        (sym (ap (λ (y : MethodShape). y.desc) called_is) ∙ called.2.1 ∙ sym is.2.1)))
 
     pub keeps : KeepsMembers (whole_classes given found) (collected_classes given found) places
     keeps = record {

@@ -120,7 +120,7 @@ zip_length R (x ∷ xs) [] all = absurd all
 zip_length R (x ∷ xs) (y ∷ ys) all = ap (λ (n : ℕ). suc n) (zip_length R xs ys all.1)
 
 -- the places of one class, and of those behind it
-first_or : (ℕ → ℕ) → (ℕ → ℕ → ℕ) → ℕ → ℕ → ℕ
+abbrev first_or : (ℕ → ℕ) → (ℕ → ℕ → ℕ) → ℕ → ℕ → ℕ
 first_or at rest zero = at
 first_or at rest (suc c) = rest c
 

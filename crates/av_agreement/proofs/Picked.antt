@@ -8,7 +8,7 @@ pub record ArePicked {X : Type 0} (P : ℕ → Type 0) (from : ℕ) (xs picked :
   pub rising : (j k : ℕ) → j < k → k < length picked → at j < at k
   pub kept : (j : ℕ) (x : X) → slice_get xs j ≡ Some x → P (from + j) → (k : ℕ) × (j ≡ at k) × (slice_get picked k ≡ Some x)
 
-pushed : (ℕ → ℕ) → ℕ → ℕ
+abbrev pushed : (ℕ → ℕ) → ℕ → ℕ
 pushed at zero = zero
 pushed at (suc k) = suc (at k)
 
@@ -18,13 +18,13 @@ moved P from j p = subst P (omega arith) p
 back : (P : ℕ → Type 0) (from j : ℕ) → P (from + suc j) → P (suc from + j)
 back P from j p = subst P (omega arith) p
 
-picked_none : {X : Type 0} (P : ℕ → Type 0) (from : ℕ) → ArePicked {X} P from [] [] (λ k. k)
+picked_none : {X : Type 0} (P : ℕ → Type 0) (from : ℕ) → ArePicked {X = X} P from [] [] (λ k. k)
 picked_none {X} P from = record { each = each; rising = λ j k lt here. absurd (omega (arith, here)); kept = kept }
   where
-    each : (k : ℕ) (x : X) → slice_get {X} [] k ≡ Some x → (slice_get {X} [] k ≡ Some x) × P (from + k)
+    each : (k : ℕ) (x : X) → slice_get {X = X} [] k ≡ Some x → (slice_get {X = X} [] k ≡ Some x) × P (from + k)
     each k x e = absurd cc
 
-    kept : (j : ℕ) (x : X) → slice_get {X} [] j ≡ Some x → P (from + j) → (k : ℕ) × (j ≡ k) × (slice_get {X} [] k ≡ Some x)
+    kept : (j : ℕ) (x : X) → slice_get {X = X} [] j ≡ Some x → P (from + j) → (k : ℕ) × (j ≡ k) × (slice_get {X = X} [] k ≡ Some x)
     kept j x e p = absurd cc
 
 picked_first : {X : Type 0} (P : ℕ → Type 0) (from : ℕ) (y : X) (xs rest : List X) (at : ℕ → ℕ) → P from → ArePicked P (suc from) xs rest at → ArePicked P from (y ∷ xs) (y ∷ rest) (pushed at)

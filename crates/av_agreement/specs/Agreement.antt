@@ -15,7 +15,7 @@ use Rattle.jv_resolve.specs.Selecting.{SelectsInterface, SelectsSpecial, Selects
 use Rattle.jv_two_worlds.specs.Agreeing.{Agree}
 use Rattle.jv_fewer_members.specs.Keeping.{class_init_name, IsSelectable, KeepsField, KeepsInterfaceMethod, KeepsMembers, KeepsMethod}
 use Rattle.jv_fewer_members.specs.Parts.{HasFewerMembers, Places, whole_field, whole_method}
-use Rattle.av_conditions.specs.Members.{RefersToField, RefersToMethod}
+use Rattle.av_conditions.specs.Members.{RefersToField, RefersToMethod, ResolvesCall}
 use Rattle.av_collected.specs.declared.collected.Collected.{Collected}
 use Rattle.av_collected.specs.Naming.{Application, HasInsn}
 
@@ -50,12 +50,12 @@ pub record ReferencesAgree (given : Application) (w v : List Shape) (at : Places
   pub methods : (insn : Insn) → HasInsn given.bodies insn → ((r : MethodRef) → insn.arg ≡ Method r → r.name ≢ class_init_name) → Agree (whole_method at) (RefersToMethod v insn) (RefersToMethod w insn)
 
 -- A call of a method of the part, on an object of a class below that of the method, runs in the part what it runs in the whole, or nothing in both.
-pub record CallsAgree (given : Application) (w v : List Shape) (at : Places) : Type 0 where
+pub record CallsAgree (w v : List Shape) (at : Places) : Type 0 where
   pub by_virtual : (c : ℕ) (resolved : MethodId) → IsSelectable v resolved → Sub w c resolved.class.number
       → Agree (whole_method at) (SelectsVirtual v c resolved) (SelectsVirtual w c (whole_method at resolved))
   pub by_interface : (c : ℕ) (resolved : MethodId) → IsSelectable v resolved → Sub w c resolved.class.number
       → Agree (whole_method at) (SelectsInterface v c resolved) (SelectsInterface w c (whole_method at resolved))
-  pub by_special : (from : ℕ) (insn : Insn) (r : MethodRef) (resolved : MethodId) → insn.arg ≡ Method r → RefersToMethod w insn (whole_method at resolved) → IsSelectable v resolved
+  pub by_special : (from : ℕ) (r : MethodRef) (resolved : MethodId) → ResolvesCall w r (whole_method at resolved) → IsSelectable v resolved
       → Agree (whole_method at) (SelectsSpecial v from r resolved) (SelectsSpecial w from r (whole_method at resolved))
 
 -- the part of the whole in which references and calls of the application agree with it
@@ -63,4 +63,4 @@ pub record AgreesWith (given : Application) (w v : List Shape) : Type 0 where
   pub at : Places
   pub part : HasFewerMembers w v at
   pub references : ReferencesAgree given w v at
-  pub calls : CallsAgree given w v at
+  pub calls : CallsAgree w v at

@@ -12,6 +12,11 @@ ghost use Rattle.av_collected.specs.Libraries.{IsLibrary, LibraryFile};
 ghost use Rattle.av_collected.specs.Naming.{Application};
 ghost use Rattle.av_agreement.specs.Agreement.{AgreesWith, HaveDistinctMembers, KeepsEnough, collected_classes, whole_classes};
 
+use jv_fewer_members::{
+    calls_select_kept, fields_resolve_to_kept, interface_methods_resolve_to_kept,
+    methods_resolve_to_kept,
+};
+
 /// What is collected of a library keeps enough of it for the application, where no class of the library is refused,
 /// and all classes together are a world.
 pub fn collected_keeps_enough()
@@ -24,4 +29,9 @@ pub fn collected_keeps_enough()
 pub fn collected_agrees()
     ensures { (given : Application) (library : List LibraryFile) (found : Collected) → AreGiven given → IsLibrary library → AreCollected given library found → FailsNot given library
         → IsWorld (whole_classes given found) → HaveDistinctMembers (whole_classes given found) → AgreesWith given (whole_classes given found) (collected_classes given found) }
-{}
+{
+    fields_resolve_to_kept();
+    methods_resolve_to_kept();
+    interface_methods_resolve_to_kept();
+    calls_select_kept();
+}
