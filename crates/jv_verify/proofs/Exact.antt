@@ -17,7 +17,7 @@ use Rattle.jv_typing.specs.TypeSafe.{site_at, IsForced, first, by_map, left}
 use Rattle.jv_typing_laws.proofs.OneFrame.{one_step, one_initial}
 use Rattle.jv_typing_laws.proofs.Forced.{one_forced}
 use Rattle.jv_typing_laws.proofs.Rows.{starts_by, nothing_starts, one_before}
-use Rattle.jv_verify.specs.Steps.Forcing.{forced_here, with_frame, IsLeft, AreForcedFrom}
+use Rattle.jv_verify.specs.Steps.Forcing.{forced_here, with_frame, IsHandedOn, IsLeft, AreForcedFrom}
 
 pub none_is_no_some : {X : Type 0} (o : Option X) (x : X) → o ≡ None → o ≡ Some x → ⊥
 none_is_no_some o x e f = absurd cc
@@ -125,22 +125,22 @@ here_exact w method body maps pc before arrives = by (at_offset pc maps) refl
 
 -- what an instruction leaves arrives at the next one
 next_arrives : (w : List Shape) (method : MethodId) (body : Body) (maps : List (ℕ × Frame)) (pc next_pc : ℕ) (insn : Insn) (here next : Option Frame) → IsExactAt w method body maps pc here
-    → at_offset pc body.insns ≡ Some insn → IsNextStart pc body.insns next_pc → IsLeft w method body pc insn here next → Arrives w method body maps next_pc next
+    → at_offset pc body.insns ≡ Some insn → IsNextStart pc body.insns next_pc → IsLeft w method body maps pc insn here next → Arrives w method body maps next_pc next
 next_arrives w method body maps pc next_pc insn here next exact at after leaves = record {
   forth = λ frame is none. forth next frame is none leaves;
   back = λ frame forced none. back frame forced none;
 }
   where
-    forth : (n : Option Frame) (frame : Frame) → n ≡ Some frame → at_offset next_pc maps ≡ None → IsLeft w method body pc insn here n → IsForced w method body maps next_pc frame
+    forth : (n : Option Frame) (frame : Frame) → n ≡ Some frame → at_offset next_pc maps ≡ None → IsLeft w method body maps pc insn here n → IsForced w method body maps next_pc frame
     forth None frame is none l = absurd cc
     forth (Some own) frame is none l =
         let same : own ≡ frame = cc in
         let typing : StepTyping w (site_at method body pc) l.0 insn own = l.3 in
         subst (IsForced w method body maps next_pc) same (left pc next_pc insn l.0 own (exact.forth l.0 l.1) at l.2 after none typing)
 
-    reaches : (n : Option Frame) (from frame : Frame) → here ≡ Some from → is_end insn.op ≡ false → StepTyping w (site_at method body pc) from insn frame → IsLeft w method body pc insn here n → n ≡ Some frame
-    reaches None from frame is goes typing l = absurd (l from frame is goes typing)
-    reaches (Some own) from frame is goes typing l =
+    reaches : (n : Option Frame) (from frame : Frame) → here ≡ Some from → IsHandedOn body maps pc insn.op next_pc → StepTyping w (site_at method body pc) from insn frame → IsLeft w method body maps pc insn here n → n ≡ Some frame
+    reaches None from frame is handed typing l = absurd (l next_pc from frame handed is typing)
+    reaches (Some own) from frame is handed typing l =
         let same : l.0 ≡ from = given_twice here l.0 from l.1 is in
         let typed : StepTyping w (site_at method body pc) from insn own = subst (λ (f : Frame). StepTyping w (site_at method body pc) f insn own) same l.3 in
         ap (λ (f : Frame). Some f) (one_step w (site_at method body pc) from insn own frame typed typing)
@@ -155,7 +155,8 @@ next_arrives w method body maps pc next_pc insn here next exact at after leaves 
         let is : here ≡ Some from = exact.back from (subst (λ (k : ℕ). IsForced w method body maps k from) place f) in
         let moved : StepTyping w (site_at method body pc) from insn' frame = subst (λ (k : ℕ). StepTyping w (site_at method body k) from insn' frame) place t in
         let typed : StepTyping w (site_at method body pc) from insn frame = subst (λ (i : Insn). StepTyping w (site_at method body pc) from i frame) same moved in
-        reaches next from frame is (subst (λ (i : Insn). is_end i.op ≡ false) same goes) typed leaves
+        let on : is_end insn.op ≡ false = subst (λ (i : Insn). is_end i.op ≡ false) same goes in
+        reaches next from frame is (record { goes = on; after = after; no_map = none }) typed leaves
 
 -- ---- all instructions
 
@@ -198,7 +199,7 @@ exact_from w method body maps done (row ∷ insns) low before rows whole r arriv
     rw is (by_place (eqb row.0 pc) refl here s exact none further)
   where
     later : (rest : List (ℕ × Insn)) → body.insns ≡ done ++ row ∷ rest → IsExactAt w method body maps row.0 (forced_here (at_offset row.0 maps) before)
-        → IsLeft w method body row.0 row.1 (forced_here (at_offset row.0 maps) before) next → FirstArrives w method body maps next rest
+        → IsLeft w method body maps row.0 row.1 (forced_here (at_offset row.0 maps) before) next → FirstArrives w method body maps next rest
     later [] e exact leaves = tt
     later (n ∷ ns) e exact leaves =
         let rising : rises_from 0 (done ++ row ∷ n ∷ ns) ≡ true = subst (λ (l : List (ℕ × Insn)). rises_from 0 l ≡ true) e body.rising in

@@ -25,7 +25,7 @@ put_either pc (Some frame) rows rest = append_assoc rows ((pc, frame) ∷ []) re
 
 pub goes_on : (w : List Shape) (method : MethodId) (body : Body) (maps : List (ℕ × Frame)) (begun before next : Option Frame) (rows : List (ℕ × Frame)) (n : ℕ) (row : ℕ × Insn)
     → n < length body.insns → row ≡ get_or body.insns n row → ForcesOn w method body maps begun before rows n
-    → IsLeft w method body row.0 row.1 (forced_here (at_offset row.0 maps) before) next
+    → IsLeft w method body maps row.0 row.1 (forced_here (at_offset row.0 maps) before) next
     → ForcesOn w method body maps begun next (rows ++ with_frame row.0 (forced_here (at_offset row.0 maps) before) []) (n + 1)
 goes_on w method body maps begun before next rows n row below is so_far leaves =
     let here = forced_here (at_offset row.0 maps) before in

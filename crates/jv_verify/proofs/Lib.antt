@@ -1,5 +1,6 @@
 mod Each
-mod Handlers
+mod Itself
+mod Covering
 mod Targets
 mod Stepping
 mod Forcing

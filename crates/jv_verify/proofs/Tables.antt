@@ -20,10 +20,11 @@ use Rattle.jv_typing.specs.Steps.{StepTyping}
 use Rattle.jv_typing.specs.TypeSafe.{site_at, FitsThere, SatisfiesHandler, FitsWhereItGoes, BeginsRight, IsTypedAt, IsTypeSafe, IsForced, first, by_map, left, FailsAt, no_initial, unfit_initial, unforced, misshapen, untyped, unfit, FailsLeastAt}
 use Rattle.jv_typing_laws.proofs.OneFrame.{one_step, one_initial}
 use Rattle.jv_typing_laws.proofs.Rows.{what_starts, starts_by, nothing_starts, one_before}
-use Rattle.jv_verify.specs.Steps.Forcing.{forced_here, with_frame, AreForcedFrom}
+use Rattle.jv_verify.specs.Steps.Forcing.{forced_here, with_frame, AreForcedFrom, AreForced}
 use Rattle.jv_verify.specs.Steps.Checking.{StandsIn, IsCheckedAt, FailsHere, AreChecked, FailsFirst, FitsFirst, HasBegun, IsReady}
 use Rattle.jv_verify.specs.Steps.Checking as checks
 use Rattle.jv_verify.proofs.Exact.{IsExactAt, BeginsWith, exact_frames, forced_rise, rest_rises, none_below, none_is_no_some, start_above}
+use Rattle.jv_verify.proofs.Itself.{frame_to_itself}
 
 -- ---- what was made
 
@@ -72,6 +73,13 @@ to_forced w method body maps rows initial made pc frame h =
     let s = starts_there w method body maps rows (Some initial) body.insns 0 pc body.rising made.forced (starts_by (at_offset pc rows) frame h) in
     (exact_at w method body maps rows initial made pc s).forth frame h
 
+pub forced_rows : (w : List Shape) (method : MethodId) (body : Body) (maps rows : List (ℕ × Frame)) (initial : Frame) → AreMade w method body maps rows initial → AreForced w method body maps rows
+forced_rows w method body maps rows initial made = record {
+  forth = to_forced w method body maps rows initial made;
+  back = to_rows w method body maps rows initial made;
+  starts = λ pc s. starts_there w method body maps rows (Some initial) body.insns 0 pc body.rising made.forced s;
+}
+
 -- ---- where a frame fits, by either
 
 pub fits_by : (w : List Shape) (body : Body) (A B : ℕ → Frame → Type 0) → ((pc : ℕ) (frame : Frame) → A pc frame → B pc frame) → (pc : ℕ) (insn : Insn) (frame after : Frame)
@@ -115,13 +123,6 @@ same_offsets w method body maps before (row ∷ insns) rows low r (next, rest, l
         → (((pc : ℕ) → IsStart insns pc → IsStart rest pc) → map (λ (r : ℕ × Frame). r.0) rest ≡ map (λ (r : ℕ × Insn). r.0) insns) → Keys (with_frame row.0 here rest)
     by None none every rises further = absurd (nothing_starts (at_offset row.0 rest) none (every row.0 own))
     by (Some frame) none every rises further = ap (λ (l : List ℕ). row.0 ∷ l) (further (skipped frame every rises))
-
-to_itself : (w : List Shape) (types : List VType) → AllZip (IsAssignable w) types types
-to_itself w [] = tt
-to_itself w (type ∷ types) = (same type type refl, to_itself w types)
-
-frame_to_itself : (w : List Shape) (frame : Frame) → IsFrameAssignable w frame frame
-frame_to_itself w frame = record { locals = to_itself w frame.locals; stack = to_itself w frame.stack; flag = λ h. h }
 
 pub table_is_made : (w : List Shape) (method : MethodId) (body : Body) (maps rows : List (ℕ × Frame)) (initial : Frame) → AreMade w method body maps rows initial → AreChecked w method body rows
     → IsTypeSafe w method body maps rows

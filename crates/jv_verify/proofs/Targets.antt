@@ -1,13 +1,10 @@
--- A frame at the targets of an instruction, and everywhere where it goes.
+-- A frame at the targets of an instruction.
 use Rattle.std.proofs.Common.{◌≡◌, ℕ, List, ◌∷◌, ◌⊎◌, inl, inr, subst}
 use Rattle.std.specs.Prelude.{◌↔◌, Contains}
-use Rattle.jv_types.specs.Bodies.{arg_targets}
 use Rattle.jv_types.specs.declared.shapes.Shape.{Shape}
-use Rattle.jv_types.specs.declared.instruction.Insn.{Insn}
-use Rattle.jv_types.specs.declared.body.Body.{Body}
 use Rattle.jv_types.specs.declared.frames.Frame.{Frame}
-use Rattle.jv_typing.specs.TypeSafe.{FitsThere, FitsWhereItGoes}
-use Rattle.jv_verify.specs.Steps.Checking.{StandsIn, FitsAtEach, FitsNext, SatisfiesAll}
+use Rattle.jv_typing.specs.TypeSafe.{FitsThere}
+use Rattle.jv_verify.specs.Steps.Checking.{StandsIn, FitsAtEach}
 use Rattle.jv_verify.proofs.Each.{first_or_later, is_first, is_later}
 
 -- the default first, and then the others
@@ -21,9 +18,3 @@ later_decide w rows default targets frame first = (
     by_place : (target : ℕ) → (default ≡ target) ⊎ Contains targets target → FitsAtEach w rows targets frame → FitsThere w (StandsIn rows) target frame
     by_place target (inl e) fits = subst (λ (t : ℕ). FitsThere w (StandsIn rows) t frame) e first
     by_place target (inr more) fits = fits target more
-
--- the handlers decide where the others fit
-pub handlers_decide : (w : List Shape) (body : Body) (rows : List (ℕ × Frame)) (pc : ℕ) (insn : Insn) (frame after : Frame) → FitsNext w body (StandsIn rows) pc insn.op after
-    → FitsAtEach w rows (arg_targets insn.arg) after → SatisfiesAll w body.handlers (StandsIn rows) pc frame ↔ FitsWhereItGoes w body (StandsIn rows) pc insn frame after
-handlers_decide w body rows pc insn frame after next jumps =
-    (λ all. record { falls = next; jumps = jumps; throws = all }, λ goes. goes.throws)

@@ -1,5 +1,5 @@
 -- What the verifier answers of a method of a class file (JVMS 4.10.1).
-use Rattle.std.specs.Prelude.{◌≡◌, ◌<◌, ℕ, List, length, Some, Contains}
+use Rattle.std.specs.Prelude.{◌≡◌, ◌<◌, ◌⊎◌, ℕ, List, [], length, Some, Contains}
 use Rattle.jv_types.specs.declared.ids.MethodId.{MethodId}
 use Rattle.jv_types.specs.declared.rule.Rule.{Rule}
 use Rattle.jv_types.specs.declared.rule.Rule.TheVariants as rules
@@ -16,9 +16,11 @@ use Rattle.jv_class.specs.declared.class_file.ClassFile.{ClassFile}
 use Rattle.jv_class.specs.declared.class_file.Member.{Member}
 use Rattle.jv_class.specs.MethodCodes.{code_in}
 use Rattle.jv_resolve.specs.Members.{IsMethod}
-use Rattle.jv_insn.specs.Decoding.{Decodes}
+use Rattle.jv_insn.specs.Decoding.{Decodes, IsLeastFailure}
 use Rattle.jv_frames.specs.Maps.{AreFramesOf, FailsFirstAt}
 use Rattle.jv_typing.specs.TypeSafe.{IsTypeSafe, FailsLeastAt}
+use Rattle.jv_verify.specs.declared.no_body.NoBody.{NoBody}
+use Rattle.jv_verify.specs.declared.no_body.NoBody.TheVariants as bodies
 use Rattle.jv_verify.specs.declared.refusal.VerifyRefusal.{VerifyRefusal}
 use Rattle.jv_verify.specs.declared.refusal.VerifyRefusal.TheVariants as refusal
 
@@ -42,6 +44,26 @@ pub record HasBody (w : List Shape) (class : ClassFile) (id : MethodId) (body : 
   pub is : IsCodeOf w class id code
   pub spelled : 0 < length code.code
   pub decodes : Decodes class.pool code.max_stack code.max_locals code.code code.handlers body
+
+-- the code has at least one byte and decodes to this body
+pub record DecodesTo (pool : List PoolItem) (code : CodeAttr) (body : Body) : Type 0 where
+  pub spelled : 0 < length code.code
+  pub decodes : Decodes pool code.max_stack code.max_locals code.code code.handlers body
+
+-- Why a code has no body: it has no byte, or more than 65,535, or it isn't well formed, and this is the least
+-- offset at which it fails.
+abbrev pub HasNoBody : List PoolItem → CodeAttr → NoBody → Type 0
+HasNoBody pool code bodies.NoCode = ⊥
+HasNoBody pool code bodies.Length = (code.code ≡ []) ⊎ (65535 < length code.code)
+HasNoBody pool code (bodies.At pc) = IsLeastFailure pool code.max_locals code.code code.handlers pc
+HasNoBody pool code bodies.Memory = Unit {0}
+
+-- why a method of a class file has none: the class file has no code for it, or that has none
+abbrev pub IsWithoutBody : List Shape → ClassFile → MethodId → NoBody → Type 0
+IsWithoutBody w class id bodies.NoCode = (code : CodeAttr) → IsCodeOf w class id code → ⊥
+IsWithoutBody w class id bodies.Length = (code : CodeAttr) × IsCodeOf w class id code × HasNoBody class.pool code bodies.Length
+IsWithoutBody w class id (bodies.At pc) = (code : CodeAttr) × IsCodeOf w class id code × HasNoBody class.pool code (bodies.At pc)
+IsWithoutBody w class id bodies.Memory = Unit {0}
 
 -- the method with this body, and its table of frames by the frames of its stack map
 pub record IsVerified (w : List Shape) (class : ClassFile) (id : MethodId) (body : Body) (framed : FramedBody) : Type 0 where

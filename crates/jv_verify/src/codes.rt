@@ -44,6 +44,26 @@ fn member_named<'a>(
     None
 }
 
+/// The member of this name and descriptor, which mostly stands at this place.
+fn member_near<'a>(
+    pool: &Pool,
+    members: &'a [Member],
+    place: usize,
+    name: &[u8],
+    descriptor: &[u8],
+) -> Option<&'a Member>
+    ensures found { IfSome result (λ member. IsNamedSo pool.now name.now descriptor.now member.now × Contains members.now member.now) }
+    ensures none { IfNone result ((member : MemberValue) → Contains members.now member → IsNamedSo pool.now name.now descriptor.now member → ⊥) }
+{
+    if place < members.len() {
+        let member = &members[place];
+        if is_named_so(pool, name, descriptor, member) {
+            return Some(member);
+        }
+    }
+    member_named(pool, members, name, descriptor)
+}
+
 /// The code of a method in its class file, in which no two methods share name and descriptor.
 pub fn code_of<'a>(
     alloc: Global,
@@ -58,9 +78,10 @@ pub fn code_of<'a>(
 {
     let method = &world.shape(id.class).methods.as_slice()[usize::from(id.index)];
     let descriptor = show_method(alloc, &method.desc)?;
-    let named = member_named(
+    let named = member_near(
         &class.pool,
         class.methods.as_slice(),
+        usize::from(id.index),
         method.name.as_slice(),
         descriptor.as_slice(),
     );

@@ -4,7 +4,7 @@ ghost use Rattle.jv_types.specs.Bodies.{rises_from, at_offset};
 ghost use Rattle.jv_resolve.specs.Members.{HasMethod};
 ghost use Rattle.jv_verify.specs.Steps.Forcing.{forced_here, with_frame, IsLeft, AreForcedFrom};
 
-use crate::goes::is_end;
+use crate::next::handed_on;
 use crate::rows::map_at;
 use crate::step::step;
 use jv_types::{Body, Copied, Frame, Insn, MethodId};
@@ -27,26 +27,28 @@ fn forced_here(
     }
 }
 
-/// What the instruction at an offset leaves at the next one.
+/// What the instruction at an offset leaves at the next one, where no map stands there.
 fn left_by(
     alloc: Global,
     world: &World,
     method: MethodId,
     body: &Body,
+    maps: &[(u32, Frame)],
     here: &Option<Frame>,
     pc: u16,
     insn: &Insn,
 ) -> Result<Option<Frame>, AllocError>
     requires method { HasMethod world.now method }
+    requires rising { IsTrue (rises_from 0 maps.now) }
     requires stands { at_offset pc body.now.insns ≡ Some insn.now }
-    ensures { IfOk result (IsLeft world.now method body.now pc insn.now here.now) }
+    ensures { IfOk result (IsLeft world.now method body.now maps.now pc insn.now here.now) }
 {
     let Some(frame) = here else {
         return Ok(None);
     };
-    if is_end(insn.op) {
+    let Some(_) = handed_on(body, maps, pc, insn.op) else {
         return Ok(None);
-    }
+    };
     match step(alloc, world, method, body, frame, pc, insn) {
         Ok(after) => Ok(Some(after)),
         Err(NoTyping::Rule) => Ok(None),
@@ -82,7 +84,7 @@ pub fn forced_frames(
     let mut left = begun;
     for row in body.insns.as_slice() {
         let here = forced_here(maps, row.0, left)?;
-        left = left_by(alloc, world, method, body, &here, row.0, &row.1)?;
+        left = left_by(alloc, world, method, body, maps, &here, row.0, &row.1)?;
         put(&mut rows, row.0, here)?;
     }
     Ok(rows)

@@ -1,8 +1,8 @@
-ghost use Rattle.std.specs.Prelude.{◌↔◌, IsTrue, IfOk, IfErr, IfSome, IfNone, Some};
+ghost use Rattle.std.specs.Prelude.{◌↔◌, IsTrue, IfOk, IfErr, Some};
 ghost use Rattle.jv_types.specs.Bodies.{rises_from};
 ghost use Rattle.jv_resolve.specs.Members.{HasMethod};
 ghost use Rattle.jv_typing.specs.TypeSafe.{IsTypeSafe, FailsLeastAt};
-ghost use Rattle.jv_verify.specs.Steps.Checking.{FitsFirst, HasBegun, NoneAt, IsReady, FailsFirst, AreChecked};
+ghost use Rattle.jv_verify.specs.Steps.Checking.{FitsFirst, HasBegun, NoneAt, IsReady, FirstFails};
 ghost use Rattle.jv_verify.specs.Steps.Forcing.{AreForcedFrom};
 
 use crate::checks::first_failing;
@@ -58,13 +58,13 @@ fn forced_and_failing(
     initial: Frame,
 ) -> Result<(Vec<(u16, Frame)>, Option<u16>), AllocError>
     requires method { HasMethod world.now method }
-    requires rising { IsTrue (rises_from 0 maps.now) }
+    requires ready { IsReady body.now maps.now }
+    requires begun { HasBegun world.now method body.now maps.now initial }
     ensures forced { IfOk result (λ both. AreForcedFrom world.now method body.now maps.now (Some initial) body.now.insns both.0.items) }
-    ensures found { IfOk result (λ both. IfSome both.1 (FailsFirst world.now method body.now both.0.items)) }
-    ensures none { IfOk result (λ both. IfNone both.1 (AreChecked world.now method body.now both.0.items)) }
+    ensures first { IfOk result (λ both. FirstFails world.now method body.now both.0.items both.1) }
 {
     let rows = forced_frames(alloc, world, method, body, maps, Some(initial))?;
-    let failing = first_failing(alloc, world, method, body, rows.as_slice())?;
+    let failing = first_failing(alloc, world, method, body, maps, rows.as_slice())?;
     Ok((rows, failing))
 }
 

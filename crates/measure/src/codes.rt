@@ -7,7 +7,7 @@ use jv_pool::Pool;
 use std::alloc::Global;
 
 /// The most bytes that a code may have (JVMS 4.7.3).
-pub const MOST_BYTES: usize = 65535;
+const MOST_BYTES: usize = 65535;
 
 /// How many codes, bytes and instructions were decoded.
 #[derive(Clone, Copy)]

@@ -1,11 +1,10 @@
 //! Which verification types and frames may stand for which (JVMS 4.10.1.2).
 
-use crate::types::{frame_of, vtype_of, words_of};
 use jv_frames::{are_assignable, assignable, frame_assignable};
 use jv_world::World;
 use std::alloc::Global;
 use std::test::Fail;
-use tests_shapes::{Asked, build, first_wrong_in};
+use tests_shapes::{Asked, build, first_wrong_in, frame_of, vtype_of, words_of};
 use tests_text::word;
 
 const WORLD: &str = "java/lang/Object,C java/lang/String,F java/lang/Runnable,I";

@@ -1,11 +1,10 @@
 //! The verification types of descriptors, and types in words (JVMS 4.10.1.2, 4.10.1.4).
 
-use crate::types::{types_of, vtype_of, words_of};
 use jv_desc::field_desc;
 use jv_frames::{desc_vtype, in_words, ref_vtype};
 use std::alloc::Global;
 use std::test::Fail;
-use tests_shapes::type_of;
+use tests_shapes::{type_of, types_of, vtype_of, words_of};
 use tests_text::word;
 
 /// Field descriptors, and the types of their values.

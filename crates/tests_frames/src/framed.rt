@@ -3,11 +3,11 @@
 ghost use Rattle.std.specs.Prelude.{IsTrue, IfOk};
 ghost use Rattle.jv_types.specs.Bodies.{rises_from};
 
-use crate::types::frame_of;
 use jv_equality::frame_at;
 use jv_types::{Body, ClassId, Frame, FramedBody, MethodId, Seq};
 use std::alloc::Global;
 use std::test::Fail;
+use tests_shapes::frame_of;
 
 /// A frame at 0, and one at 3.
 fn rows_of(alloc: Global, first: Frame, second: Frame) -> Result<Seq<(u16, Frame)>, Fail>

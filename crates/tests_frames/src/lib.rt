@@ -14,6 +14,5 @@ mod parts;
 #[cfg(test)]
 mod rules;
 #[cfg(test)]
-mod types;
 #[cfg(test)]
 mod words;

@@ -1,6 +1,5 @@
 //! The frames of a method's stack map (JVMS 4.7.4), and those with which methods begin (4.10.1.6).
 
-use crate::types::{frame_of, is_frame};
 use jv_attr::{AttrBody, CodeAttr, Owner, read_attr};
 use jv_bytes::{Cursor, Writer};
 use jv_frames::{BadMap, frames_of, initial_frame};
@@ -10,7 +9,7 @@ use jv_types::{Body, Frame};
 use jv_world::World;
 use std::alloc::Global;
 use std::test::Fail;
-use tests_shapes::{Asked, build, first_wrong_in, method_of};
+use tests_shapes::{Asked, build, first_wrong_in, frame_of, is_frame, method_of};
 use tests_text::{hex, word};
 
 /// Object and `app/S`, each with a `main`, a constructor that takes a long, and one without parameters.

@@ -1,6 +1,5 @@
 //! Parts of a step: cells on a stack and in local variables, and what is put there (JVMS 4.10.1.4, 4.10.1.7).
 
-use crate::types::{vtype_of, words_of};
 use jv_table::Cell;
 use jv_types::{Seq, VType};
 use jv_typing::{
@@ -9,6 +8,7 @@ use jv_typing::{
 };
 use std::alloc::{AllocError, Global};
 use std::test::Fail;
+use tests_shapes::{vtype_of, words_of};
 use tests_text::{part, word};
 
 /// The cell of a name.

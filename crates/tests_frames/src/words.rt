@@ -1,6 +1,5 @@
 //! The instructions that work on words: the frame that each leaves (JVMS 4.10.1.9).
 
-use crate::types::{frame_of, is_frame};
 use jv_bytes::Cursor;
 use jv_insn::decode;
 use jv_pool::{Pool, read_pool};
@@ -8,6 +7,7 @@ use jv_types::{Arg, Body, Const, Frame, Insn};
 use jv_verify_words::word_step;
 use std::alloc::Global;
 use std::test::Fail;
+use tests_shapes::{frame_of, is_frame};
 use tests_text::{hex, part, word};
 
 /// A pool of a double.

@@ -13,10 +13,12 @@ mod names;
 mod places;
 mod rows;
 mod shapes;
+mod types;
 mod worlds;
 
 pub use names::{field_ref_of, member_of, method_ref_of, name_of, type_of};
 pub use places::{are_classes, are_methods, class_of, is_class, is_method, method_at, method_of};
 pub use rows::{Asked, first_wrong, first_wrong_in};
 pub use shapes::shape_of;
+pub use types::{frame_of, is_frame, types_of, vtype_of, words_of};
 pub use worlds::{build, shapes_of};

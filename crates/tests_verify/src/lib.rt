@@ -26,6 +26,5 @@ mod returns;
 #[cfg(test)]
 mod steps;
 #[cfg(test)]
-mod types;
 #[cfg(test)]
 mod verifying;

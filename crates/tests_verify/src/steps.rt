@@ -4,13 +4,12 @@ ghost use Rattle.std.specs.Prelude.{IsTrue, IfOk};
 ghost use Rattle.jv_types.specs.Bodies.{rises_from};
 
 use crate::instructions::insn_of;
-use crate::types::{frame_of, is_frame};
 use jv_types::{Body, Frame, Insn, Seq};
 use jv_verify_refs::ref_step;
 use jv_world::World;
 use std::alloc::Global;
 use std::test::Fail;
-use tests_shapes::{build, class_of, method_of};
+use tests_shapes::{build, class_of, frame_of, is_frame, method_of};
 use tests_text::{part, word};
 
 /// `app/A` has a superclass in another package, and `app/B` is below it.

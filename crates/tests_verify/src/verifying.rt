@@ -2,13 +2,12 @@
 
 use crate::asked::answer;
 use crate::class_files::file_of;
-use crate::types::frame_of;
 use jv_types::{Frame, FramedBody, Rule};
 use jv_verify::VerifyRefusal;
 use jv_world::World;
 use std::alloc::Global;
 use std::test::Fail;
-use tests_shapes::{build, method_of};
+use tests_shapes::{build, frame_of, method_of};
 use tests_text::{part, word};
 
 const WORLD: &str = "\

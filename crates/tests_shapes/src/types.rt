@@ -3,12 +3,12 @@
 //! uninitialized, an array's descriptor, or a class's name. A frame is its locals, `|` and its stack, and
 //! `!` at the end where the flag flagThisUninit is set.
 
+use crate::names::name_of;
 use jv_desc::field_desc;
 use jv_types::{Desc, Frame, RefType, Seq, VType};
 use sqlite_items::Boxed;
 use std::alloc::Global;
 use std::test::Fail;
-use tests_shapes::name_of;
 
 /// What stands behind the brackets of an array's descriptor, and how many there are.
 fn innermost(text: &str) -> (&str, usize) {

@@ -1,6 +1,0 @@
-use Rattle.av_conditions.proofs.Standing.{HoldsBefore}
-use Rattle.jv_verify.proofs.Asked.{IsCheckedRow}
-use Rattle.jv_verify.proofs.checks.first_failing.Given as goal
-
-abbrev pub invariant-loop-row : goal.invariant-loop-row
-invariant-loop-row l = HoldsBefore (IsCheckedRow l.world l.fn.method l.body l.rows) l.body.insns l.row-index
