@@ -1,9 +1,7 @@
 -- The answers over what was read are those over the whole library.
-use Rattle.std.proofs.Common.{◌≡◌, ℕ, suc, ◌≤◌, ◌⊎◌, inl, inr, List, [], ◌∷◌, Contains, sym, subst, ⊎_elim}
+use Rattle.std.proofs.Common.{◌≡◌, ℕ, suc, inl, inr, List, [], ◌∷◌, sym, subst, ⊎_elim}
 use Rattle.std.specs.Prelude.{◌↔◌}
 use Rattle.std.specs.List.{AllZip}
-use Rattle.jv_types.specs.declared.shapes.FieldShape.{FieldShape}
-use Rattle.jv_types.specs.declared.shapes.MethodShape.{MethodShape}
 use Rattle.jv_types.specs.declared.shapes.Shape.{Shape}
 use Rattle.av_collected.specs.declared.collected.Collected.{Collected}
 use Rattle.av_collected.proofs.Growing.{collected_grows, more_field, more_method, more_shape}

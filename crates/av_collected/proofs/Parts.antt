@@ -1,6 +1,5 @@
 -- The shapes of a world that have a property make a world, where supertypes of such a shape have it too.
-use Rattle.std.proofs.Common.{◌≡◌, ℕ, ◌<◌, ◌≤◌, ◌⊎◌, inl, inr, List, [], ◌∷◌, Option, None, Some, length, slice_get, Contains, refl, ap, sym, ◌∙◌, subst, arith, ⊎_elim, MatchOption}
-use Rattle.std.proofs.lemmas.Option.{same_Some}
+use Rattle.std.proofs.Common.{◌≡◌, ℕ, ◌<◌, ◌⊎◌, inl, inr, List, [], ◌∷◌, Option, None, Some, slice_get, Contains, refl, sym, ◌∙◌, subst, arith, ⊎_elim, MatchOption}
 use Rattle.jv_types.specs.declared.shapes.Shape.{Shape}
 use Rattle.jv_resolve.proofs.PlacesLemmas.{among_from_get}
 use Rattle.jv_world.specs.Worlds.{object_name, AreNumbered, HasRightSupers, HasSuper, HaveDistinctNames, IsAbsent, IsFinal, IsInterface, IsWorld, NamesSuper}
@@ -12,27 +11,36 @@ pub none_apart : HaveDistinctNames []
 none_apart c d name p q = absurd (in_none p.0 (among_from_get [] c p.0 p.1))
 
 pub part_of : (P : Shape → Type 0) → ((s : Shape) → P s ⊎ (P s → ⊥)) → (w : List Shape) → HaveDistinctNames w → (v : List Shape) × IsPart P w v
-part_of P decide [] apart = ([], record {
-  from = λ s h. absurd (in_none s h);
-  all = λ s h p. absurd (in_none s h);
-  apart = none_apart;
-  count = omega arith;
-})
+part_of P decide [] apart = (
+  [],
+  record {
+    from = λ s h. absurd (in_none s h);
+    all = λ s h p. absurd (in_none s h);
+    apart = none_apart;
+    count = omega arith;
+  },
+)
 part_of P decide (x ∷ xs) apart = by (decide x) (part_of P decide xs (apart_tail x xs apart))
   where
     by : P x ⊎ (P x → ⊥) → (v : List Shape) × IsPart P xs v → (v : List Shape) × IsPart P (x ∷ xs) v
-    by (inl has) (v, part) = (x ∷ v, record {
-      from = λ s h. ⊎_elim (λ is. (subst (λ (t : Shape). Contains (x ∷ xs) t) is (in_head x xs), subst P is has)) (λ more. (in_tail x xs s (part.from s more).0, (part.from s more).1)) (of_cons x v s h);
-      all = λ s h p. ⊎_elim (λ is. subst (λ (t : Shape). Contains (x ∷ v) t) is (in_head x v)) (λ more. in_tail x v s (part.all s more p)) (of_cons x xs s h);
-      apart = apart_cons x v (λ s h same. apart_head x xs apart s (part.from s h).0 same) part.apart;
-      count = omega (arith, part.count);
-    })
-    by (inr lacks) (v, part) = (v, record {
-      from = λ s h. (in_tail x xs s (part.from s h).0, (part.from s h).1);
-      all = λ s h p. ⊎_elim (λ is. absurd (lacks (subst P (sym is) p))) (λ more. part.all s more p) (of_cons x xs s h);
-      apart = part.apart;
-      count = omega (arith, part.count);
-    })
+    by (inl has) (v, part) = (
+      x ∷ v,
+      record {
+        from = λ s h. ⊎_elim (λ is. (subst (λ (t : Shape). Contains (x ∷ xs) t) is (in_head x xs), subst P is has)) (λ more. (in_tail x xs s (part.from s more).0, (part.from s more).1)) (of_cons x v s h);
+        all = λ s h p. ⊎_elim (λ is. subst (λ (t : Shape). Contains (x ∷ v) t) is (in_head x v)) (λ more. in_tail x v s (part.all s more p)) (of_cons x xs s h);
+        apart = apart_cons x v (λ s h same. apart_head x xs apart s (part.from s h).0 same) part.apart;
+        count = omega (arith, part.count);
+      },
+    )
+    by (inr lacks) (v, part) = (
+      v,
+      record {
+        from = λ s h. (in_tail x xs s (part.from s h).0, (part.from s h).1);
+        all = λ s h p. ⊎_elim (λ is. absurd (lacks (subst P (sym is) p))) (λ more. part.all s more p) (of_cons x xs s h);
+        apart = part.apart;
+        count = omega (arith, part.count);
+      },
+    )
 
 -- where a shape of the part stands in the whole
 abbrev pub Find : List Shape → List Shape → Type 0
@@ -74,6 +82,7 @@ part_is_world P w v world part up = ranked v numbered there right (λ c. world.r
   where
     find : Find v w
     find s h = (part.from s h).0
+
     numbered : AreNumbered v
     numbered = record {
       distinct = part.apart;
@@ -81,6 +90,7 @@ part_is_world P w v world part up = ranked v numbered there right (λ c. world.r
       fields = λ s h. world.numbered.fields s (find s h);
       methods = λ s h. world.numbered.methods s (find s h);
     }
+
     there : (name : List ℕ) → IsAbsent v name → ⊥
     there name absent = world.none_absent name (record {
       shape = absent.shape;
@@ -92,7 +102,9 @@ part_is_world P w v world part up = ranked v numbered there right (λ c. world.r
           let in_v = part.all t in_w (up absent.shape t absent.here in_w (subst (λ (n : List ℕ). NamesSuper absent.shape n) (sym named.2) absent.names)) in
           absent.nowhere in_v.0 (t, at_place v t in_v, named.2);
     })
+
     right : (s : Shape) → Contains v s → HasRightSupers v s
     right s h = right_in_part w v find s (world.right_supers s (find s h))
+
     falls : (c d : ℕ) → HasSuper v c d → world.rank (spot v w find d (slice_get v d) refl) < world.rank (spot v w find c (slice_get v c) refl)
     falls c d link = world.falls (spot v w find c (slice_get v c) refl) (spot v w find d (slice_get v d) refl) (spot-link v w find c d link)

@@ -1,6 +1,6 @@
 -- A list of shapes is a world where supertypes are there and of the right kinds, and links lead to lower ranks,
 -- however high the ranks are.
-use Rattle.std.proofs.Common.{◌≡◌, ℕ, zero, suc, ◌+◌, ◌<◌, ◌≤◌, ◌⊎◌, inl, inr, ltb, cond, List, length, refl, subst, arith}
+use Rattle.std.proofs.Common.{◌≡◌, ℕ, zero, suc, ◌+◌, ◌<◌, ◌≤◌, ◌⊎◌, inl, inr, ltb, cond, List, length, subst, arith}
 use Rattle.std.proofs.lemmas.Bool.Decides.{nat_tests}
 use Rattle.jv_types.specs.declared.shapes.Shape.{Shape}
 use Rattle.jv_resolve.proofs.Hierarchy.{super_here}

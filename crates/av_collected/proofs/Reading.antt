@@ -1,36 +1,17 @@
 -- What was read of a library: where all files were read whose classes are collected over what was read.
-use Rattle.std.proofs.Common.{◌≡◌, ℕ, ◌⊎◌, inl, inr, Bool, true, false, List, [], ◌∷◌, Option, None, Some, slice_get, Contains, refl, ap, sym, ◌∙◌, subst, ⊎_elim}
-use Rattle.std.proofs.lemmas.Option.{same_Some}
-use Rattle.std.specs.Prelude.{unwrap_or}
-use Rattle.jv_types.specs.declared.desc.RefType.{RefType, Class, PrimArray, Array'}
-use Rattle.jv_types.specs.declared.ids.FieldId.{FieldId}
-use Rattle.jv_types.specs.declared.ids.MethodId.{MethodId}
-use Rattle.jv_types.specs.declared.instruction.Arg.{Arg}
-use Rattle.jv_types.specs.declared.instruction.Arg.TheVariants as args
-use Rattle.jv_types.specs.declared.instruction.Insn.{Insn}
-use Rattle.jv_types.specs.declared.references.FieldRef.{FieldRef}
-use Rattle.jv_types.specs.declared.references.MethodRef.{MethodRef}
+use Rattle.std.proofs.Common.{◌≡◌, ℕ, ◌⊎◌, inl, inr, List, [], ◌∷◌, Contains, refl, ap, sym, ◌∙◌, subst, ⊎_elim}
 use Rattle.jv_types.specs.declared.shapes.FieldShape.{FieldShape}
 use Rattle.jv_types.specs.declared.shapes.MethodShape.{MethodShape}
 use Rattle.jv_types.specs.declared.shapes.Shape.{Shape}
-use Rattle.jv_world.specs.Worlds.{object_name, HaveDistinctNames, IsNamed, IsWorld, NamesSuper}
+use Rattle.jv_world.specs.Worlds.{IsNamed, NamesSuper}
 use Rattle.jv_resolve.proofs.PlacesLemmas.{among_from_get}
-use Rattle.jv_resolve.specs.Members.{DeclaresMethod}
-use Rattle.jv_resolve.specs.References.{named_class, BeginsAt}
-use Rattle.jv_resolve.specs.Resolving.{ResolvesField, ResolvesInterfaceMethod, ResolvesMethod}
-use Rattle.jv_two_worlds.specs.Agreeing.{Agree}
-use Rattle.jv_two_worlds.specs.Renumbering.{StandsIn, field_to, method_to}
-use Rattle.jv_two_worlds.specs.SameClasses.{IsSameClass}
-use Rattle.jv_two_worlds.specs.Types.{EndsIn, of_class}
-use Rattle.av_conditions.specs.Members.{ResolvesBy, RefersToField, RefersToMethod}
 use Rattle.av_collected.proofs.Lists.{in_head, in_tail, of_cons, in_none, at_place, same_name}
 use Rattle.av_collected.proofs.Parts.{part_of, part_is_world}
-use Rattle.av_collected.proofs.Same.{Longer, same_itself}
 use Rattle.av_collected.specs.Parts.{IsPart}
 use Rattle.av_collected.specs.Libraries.{LibraryFile, HasFile, HasShape, HasFieldAt, HasMethodAt, IsLibrary, IsOfApplication, IsOfLibrary, IsHere, AreWhole}
-use Rattle.av_collected.specs.Naming.{Application, HasInsn, ArgNames}
-use Rattle.av_collected.specs.Rounds.{IsInside, IsReadOut}
-use Rattle.av_collected.specs.Rules.{Item, ClassNamed, FieldAt, MethodAt, From, Nothing, One, Two, IsAboveApplication, own, super, Collects, named_by_instruction, named_by_field, named_by_method, named_as_super, named_by_handler, named_by_map, supertype, resolved_field, resolved_method, inherited_method, in_field, in_method, core_class, core_method, same_signature, AreIn, IsCollected, of_nothing, of_one, of_two, IsClosed, collected_is_least}
+use Rattle.av_collected.specs.Naming.{Application}
+use Rattle.av_collected.specs.Rounds.{IsReadOut}
+use Rattle.av_collected.specs.Rules.{Item, ClassNamed, FieldAt, MethodAt, From, Nothing, One, Two, IsAboveApplication, own, super, Collects, named_by_instruction, named_by_field, named_by_method, named_as_super, named_by_handler, named_by_map, supertype, resolved_field, resolved_method, inherited_method, in_field, in_method, core_class, core_method, same_signature, IsCollected, of_nothing, of_one, of_two}
 
 -- ---- what has a name
 
@@ -168,13 +149,18 @@ module _ (given : Application) (part library : List LibraryFile) (files : IsLibr
           (supertype s.name t.name s (file, read, named, shape) names free)
 
   pub part_world : (w : List Shape) → AreWhole given.shapes library w → (v : List Shape) × IsPart Known w v × AreWhole given.shapes part v
-  part_world w whole = (found.0, found.1, record {
-    world = part_is_world Known w found.0 whole.world found.1 (λ s t in_v in_w names. known_up s t (here s in_v) (whole.here t in_w) names);
-    here = here;
-  })
+  part_world w whole = (
+    found.0,
+    found.1,
+    record {
+      world = part_is_world Known w found.0 whole.world found.1 (λ s t in_v in_w names. known_up s t (here s in_v) (whole.here t in_w) names);
+      here = here;
+    },
+  )
     where
       found : (v : List Shape) × IsPart Known w v
       found = part_of Known (λ s. find_known given.shapes part s.name) w whole.world.numbered.distinct
+
       here : (s : Shape) → Contains found.0 s → IsHere given.shapes part s
       here s in_v = known_here s (whole.here s (found.1.from s in_v).0) (found.1.from s in_v).1
 

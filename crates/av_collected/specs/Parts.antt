@@ -1,5 +1,5 @@
 -- The shapes of a list that have a property.
-use Rattle.std.specs.Prelude.{ℕ, ◌≤◌, List, length, Contains}
+use Rattle.std.specs.Prelude.{◌≤◌, List, length, Contains}
 use Rattle.jv_types.specs.declared.shapes.Shape.{Shape}
 use Rattle.jv_world.specs.Worlds.{HaveDistinctNames}
 

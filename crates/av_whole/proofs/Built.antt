@@ -28,6 +28,7 @@ module _ (w v : List Shape) (numbered : AreNumbered w) (part : IsPart (IsWholeIn
       by : NamesSuper s t.name → HasSuper w c d
       by (inl parent) = inl (s, t.name, at, parent, (t, there, refl))
       by (inr has) = inr (s, t.name, at, has, (t, there, refl))
+
       first : HasSuper w c d
       first = by names
 

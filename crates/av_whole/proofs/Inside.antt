@@ -28,6 +28,7 @@ find_name (s ∷ l) name = by (same_name s.name name) (find_name l name)
     none : (s.name ≡ name → ⊥) → ((c : ℕ) → IsNamed l c name → ⊥) → (c : ℕ) → IsNamed (s ∷ l) c name → ⊥
     none differs more zero h = differs (ap (λ (t : Shape). t.name) (same_Some s h.0 h.1) ∙ h.2)
     none differs more (suc c) h = more c h
+
     by : (s.name ≡ name) ⊎ (s.name ≡ name → ⊥) → ((c : ℕ) × IsNamed l c name) ⊎ ((c : ℕ) → IsNamed l c name → ⊥)
         → ((c : ℕ) × IsNamed (s ∷ l) c name) ⊎ ((c : ℕ) → IsNamed (s ∷ l) c name → ⊥)
     by (inl is) rest = inl (0, (s, refl, is))

@@ -82,6 +82,7 @@ step_left w v v_now marks i mark numbered are here at clear same part = by (slic
     slice_there [] k h = absurd (omega (arith, h))
     slice_there (s ∷ l) zero h = (s, refl)
     slice_there (s ∷ l) (suc k) h = slice_there l k (omega (arith, h))
+
     by : (s : Shape) × (slice_get w i ≡ Some s) → IsPart (IsWholeIn w) (take (i + 1) w) v_now
     by (x, at_w) =
         let read : get_or w i x ≡ x = same_Some (get_or w i x) x (sym (slice_get-get_or w i x here) ∙ at_w) in
