@@ -1,0 +1,17 @@
+pub mod AppSteps
+pub mod Calling
+pub mod Elements
+pub mod Events
+pub mod Fields
+pub mod Holding
+pub mod LibraryTypes
+pub mod Making
+pub mod Operands
+pub mod Raising
+pub mod Returning
+pub mod RunTypes
+pub mod Spots
+pub mod States
+pub mod Testing
+pub mod UnseenClasses
+pub mod Words
