@@ -1,11 +1,7 @@
-//! What a library may do beside an application: the assumption that the whole analysis rests on.
+//! What a library may do beside an application: the assumption that the whole analysis rests on, and the runs of a
+//! program with any such library.
 #![tactic(auto)]
 
-ghost use Rattle.av_assume.specs.Runs.{IsRun};
-ghost use Rattle.std.specs.Prelude.{List, ℕ, ◌≡◌};
+mod laws;
 
-fn probe(n: u8) -> u8
-    ensures { (w : _) (methods : _) (main : _) (dims : ℕ) (events : _) (calls : _) (new : _) → IsRun w methods main dims events calls new → n ≡ result }
-{
-    n
-}
+pub use laws::{main_may_be_entered, runs_keep_objects, threads_may_begin};

@@ -4,8 +4,10 @@ pub mod Elements
 pub mod Events
 pub mod Fields
 pub mod Holding
+pub mod Keeping
 pub mod LibraryTypes
 pub mod Making
+pub mod NeverWanting
 pub mod Operands
 pub mod Raising
 pub mod Returning

@@ -1,7 +1,8 @@
 -- Where a thread stands in a method of the application, and where it goes on (JVMS 2.5.1, 2.6).
-use Rattle.std.specs.Prelude.{◌≡◌, ℕ, zero, suc, ◌-◌, ◌++◌, ◌⊎◌, Bool, true, false, List, [], ◌∷◌, Option, Some, None, length, replicate, slice_get, slice_set, Contains}
+use Rattle.std.specs.Prelude.{◌≡◌, ℕ, zero, suc, ◌-◌, ◌++◌, ◌⊎◌, Bool, true, false, List, [], ◌∷◌, Option, Some, None, length, max, replicate, slice_get, slice_set, Contains}
 use Rattle.jv_types.specs.Bodies.{IsNextStart, at_offset}
 use Rattle.jv_types.specs.declared.body.Body.{Body}
+use Rattle.jv_types.specs.declared.frames.Frame.{Frame}
 use Rattle.jv_types.specs.declared.frames.FramedBody.{FramedBody}
 use Rattle.jv_types.specs.declared.ids.MethodId.{MethodId}
 use Rattle.jv_types.specs.declared.instruction.Insn.{Insn}
@@ -62,7 +63,19 @@ goes_on spot insn given to = let after = leave insn given spot.words in App spot
 
 -- ---- a method that is entered
 
--- The frame of a method as it begins, on these words: they are its first local variables, the others hold no
--- reference.
+-- the local variables of the widest frame
+abbrev pub widest_frame : List (ℕ × Frame) → ℕ
+widest_frame [] = 0
+widest_frame (row ∷ rows) = max (length row.1.locals) (widest_frame rows)
+
+-- how many local variables a method has: as many as its code says, and no fewer than its frames have
+abbrev pub local_count : FramedBody → ℕ
+local_count framed = max framed.body.max_locals (widest_frame framed.frames)
+
+-- the local variables of a method as it begins on these words: they come first, and the others hold no reference
+abbrev pub entry_locals : FramedBody → List Held → List Held
+entry_locals framed words = words ++ replicate (local_count framed - length words) Word
+
+-- the frame of a method as it begins on these words
 abbrev pub entered : FramedBody → List Held → Activation
-entered framed words = App framed.method 0 (words ++ replicate (framed.body.max_locals - length words) Word) []
+entered framed words = App framed.method 0 (entry_locals framed words) []

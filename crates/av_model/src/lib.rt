@@ -2,13 +2,11 @@
 //! collected classes and members are known.
 #![tactic(auto)]
 
-ghost use Rattle.av_model.specs.AppSteps.{AppStep};
-ghost use Rattle.av_model.specs.States.{IsSoundState, first_state};
-ghost use Rattle.std.specs.Prelude.{List, ℕ, ◌≡◌};
+mod laws;
+mod start;
 
-fn probe(n: u8) -> u8
-    ensures a { (w : _) (methods : _) (old : _) (thread : ℕ) (choice : _) (calls : _) (new : _) → AppStep w methods old thread choice calls new → n ≡ result }
-    ensures b { (w : _) (methods : _) (main : _) → IsSoundState w methods (first_state main 1) → n ≡ result }
-{
-    n
-}
+pub use laws::{
+    frames_keep_their_kinds, instructions_are_not_wanting, raises_are_steps, steps_keep_objects,
+    unseen_types_stay_above,
+};
+pub use start::start;

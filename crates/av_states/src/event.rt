@@ -4,7 +4,7 @@ use jv_types::{FieldId, MethodId, Seq};
 
 /// What a thread does. The first five are steps of the application, on a thread whose last frame is the
 /// application's; all others are moves of the library.
-#[derive(Debug, Drop)]
+#[derive(Debug, PartialEq, Eq, Drop)]
 pub enum Choice {
     /// The instruction is done. `branch` counts the places where it goes, the next one first. `index` is that of an
     /// item of an array, or the number of the object that the load of a String or a class gives. A number that the
@@ -69,7 +69,7 @@ pub enum Choice {
 }
 
 /// One step of one thread. A thread that begins has the number of the threads before it.
-#[derive(Debug, Drop)]
+#[derive(Debug, PartialEq, Eq, Drop)]
 pub struct Event {
     pub thread: u64,
     pub choice: Choice,
