@@ -16,10 +16,7 @@ pub enum RunType {
     Class(ClassId),
     /// A class of the library that nobody sees: the lowest class of the world that it is or extends, and the
     /// library's interfaces that it implements, by rising numbers.
-    Lib {
-        low: ClassId,
-        ifs: Seq<ClassId>,
-    },
+    Lib { low: ClassId, ifs: Seq<ClassId> },
     /// A primitive type (JVMS 2.3), which only the items of an array have.
     Prim(Prim),
     /// An array of items of a type.
