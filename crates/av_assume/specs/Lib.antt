@@ -1,0 +1,3 @@
+pub mod Assumption
+pub mod LibraryMoves
+pub mod Runs

@@ -1,0 +1,5 @@
+pub mod GoingOn
+pub mod KeptKinds
+pub mod NeverWanting
+pub mod Raised
+pub mod Staying
