@@ -9,14 +9,14 @@ use Rattle.av_collected.specs.Rules.{Item, From, Nothing, One, Two, IsAboveAppli
 use Rattle.jv_types.specs.declared.shapes.FieldShape.{FieldShape}
 use Rattle.jv_types.specs.declared.shapes.MethodShape.{MethodShape}
 
-module _ {part library : List LibraryFile} (inside : IsInside part library) where
+module _ (part library : List LibraryFile) (inside : IsInside part library) where
   pub more_shape : (name : List ℕ) (s : Shape) → HasShape part name s → HasShape library name s
   more_shape name s h = (h.0, inside h.0 h.1, h.2, h.3)
 
-  more_field : (class : List ℕ) (place : ℕ) (field : FieldShape) → HasFieldAt part class place field → HasFieldAt library class place field
+  pub more_field : (class : List ℕ) (place : ℕ) (field : FieldShape) → HasFieldAt part class place field → HasFieldAt library class place field
   more_field class place field h = (h.0, more_shape class h.0 h.1, h.2)
 
-  more_method : (class : List ℕ) (place : ℕ) (method : MethodShape) → HasMethodAt part class place method → HasMethodAt library class place method
+  pub more_method : (class : List ℕ) (place : ℕ) (method : MethodShape) → HasMethodAt part class place method → HasMethodAt library class place method
   more_method class place method h = (h.0, more_shape class h.0 h.1, h.2)
 
   pub more_here : (app : List Shape) (s : Shape) → IsHere app part s → IsHere app library s

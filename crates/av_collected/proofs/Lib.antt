@@ -1,5 +1,8 @@
-mod Lists
+pub mod Lists
 mod Ranked
-mod Parts
+pub mod Parts
+pub mod Same
 mod Growing
+mod Reading
+mod Answering
 mod Ending

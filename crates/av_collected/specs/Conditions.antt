@@ -1,11 +1,9 @@
 -- What collection asks of the application that is handed in.
 use Rattle.std.specs.Prelude.{◌≡◌, ℕ, ◌≤◌, true, List, Some, length, slice_get, Contains}
-
 use Rattle.jv_types.specs.declared.instruction.Insn.{Insn}
 use Rattle.jv_types.specs.declared.shapes.MethodShape.{MethodShape}
 use Rattle.jv_types.specs.declared.shapes.Shape.{Shape}
 use Rattle.jv_world.specs.Worlds.{HaveDistinctNames}
-
 use Rattle.jv_names.specs.Spellings.{IsTypeName}
 use Rattle.av_collected.specs.declared.method_body.MethodBody.{MethodBody}
 use Rattle.av_collected.specs.Libraries.{IsBounded}

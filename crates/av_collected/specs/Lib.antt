@@ -1,4 +1,5 @@
 pub mod Types
+pub mod Parts
 pub mod Libraries
 pub mod Naming
 pub mod Rules

@@ -1,6 +1,8 @@
 //! Laws of collection. Each function does nothing, and its contract is the law.
 
-ghost use Rattle.std.specs.Prelude.{◌↔◌, Bool, IsTrue, List};
+ghost use Rattle.std.specs.Prelude.{◌↔◌, ℕ, Bool, IsTrue, List};
+ghost use Rattle.av_collected.specs.declared.collected.Collected.{Collected as CollectedValue};
+ghost use Rattle.av_collected.specs.Answers.{AreCollected, AreTooMany, HasUnfitFile, IsMissing, NamesApplication};
 ghost use Rattle.av_collected.specs.Libraries.{IsLibrary, LibraryFile};
 ghost use Rattle.av_collected.specs.Naming.{Application};
 ghost use Rattle.av_collected.specs.Rounds.{IsInside, IsReadOut};
@@ -28,4 +30,21 @@ pub fn collected_by_rounds()
     fields_resolve_alike();
     methods_resolve_alike();
     interface_methods_resolve_alike();
+}
+
+/// So it is with what is answered of them: where just the files of all classes were read that are collected over what
+/// was read, the refusals and the collected classes over it are those over the whole library. A count of classes that
+/// passes its limit over a part passes it over the whole.
+pub fn answers_by_rounds()
+    ensures unfit { (given : Application) (part library : List LibraryFile) → IsLibrary library → IsReadOut given part library
+        → (name : List ℕ) → HasUnfitFile given part name ↔ HasUnfitFile given library name }
+    ensures missing { (given : Application) (part library : List LibraryFile) → IsLibrary library → IsReadOut given part library
+        → (name : List ℕ) → IsMissing given part name ↔ IsMissing given library name }
+    ensures apart { (given : Application) (part library : List LibraryFile) → IsLibrary library → IsReadOut given part library
+        → (class : List ℕ) → NamesApplication given part class ↔ NamesApplication given library class }
+    ensures collected { (given : Application) (part library : List LibraryFile) → IsLibrary library → IsReadOut given part library
+        → (found : CollectedValue) → AreCollected given part found ↔ AreCollected given library found }
+    ensures many { (given : Application) (part library : List LibraryFile) → IsInside part library → AreTooMany given part → AreTooMany given library }
+{
+    collected_by_rounds();
 }

@@ -11,7 +11,7 @@ mod stop;
 
 pub use collected::Collected;
 pub use found::ShapeFound;
-pub use laws::{collected_by_rounds, collected_is_the_least};
+pub use laws::{answers_by_rounds, collected_by_rounds, collected_is_the_least};
 pub use method_body::MethodBody;
 pub use source::ShapeSource;
 pub use stop::CollectStop;

@@ -3,7 +3,7 @@ use Rattle.av_collected.proofs.Growing.{collected_grows}
 use Rattle.av_collected.proofs.laws.collected_by_rounds.Goals as goal
 
 pub returns-clause-grows : goal.returns-clause-grows
-returns-clause-grows _ = λ given part library inside item h. collected_grows inside given item h
+returns-clause-grows _ = λ given part library inside item h. collected_grows part library inside given item h
 
 pub returns-clause-ends : goal.returns-clause-ends
 returns-clause-ends c = λ given part library files out item.
@@ -14,4 +14,4 @@ returns-clause-ends c = λ given part library files out item.
       interface_methods = c.interface_methods_resolve_alike.ensures.found;
       longer = c.worlds_stand_in.ensures.longer;
     } in
-    (λ h. collected_grows out.inside given item h, λ h. collected_ends laws given part library files out item h)
+    (λ h. collected_grows part library out.inside given item h, λ h. collected_ends laws given part library files out item h)

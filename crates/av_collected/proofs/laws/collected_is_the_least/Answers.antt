@@ -1,5 +1,5 @@
 use Rattle.std.proofs.Common.{IsTrue}
-use Rattle.av_collected.specs.Rules.{Item, collected_is_closed, collected_is_least}
+use Rattle.av_collected.specs.Rules.{collected_is_closed, collected_is_least}
 use Rattle.av_collected.proofs.laws.collected_is_the_least.Goals as goal
 
 pub returns-clause-closed : goal.returns-clause-closed
