@@ -1,6 +1,5 @@
 -- What an application refers to and calls in a part that keeps enough.
-use Rattle.std.proofs.Common.{◌≡◌, ◌≢◌, ℕ, ◌⊎◌, Bool, true, false, List, refl, sym, subst, inl, inr}
-use Rattle.jv_types.specs.declared.ids.FieldId.{FieldId}
+use Rattle.std.proofs.Common.{◌≡◌, ◌≢◌, ℕ, ◌⊎◌, Bool, true, false, List, refl, inl, inr}
 use Rattle.jv_types.specs.declared.ids.MethodId.{MethodId}
 use Rattle.jv_types.specs.declared.instruction.Arg.TheVariants.{Method}
 use Rattle.jv_types.specs.declared.instruction.Insn.{Insn}
@@ -13,9 +12,9 @@ use Rattle.jv_resolve.specs.Selecting.{SelectsInterface, SelectsSpecial, Selects
 use Rattle.jv_two_worlds.specs.Agreeing.{Agree}
 use Rattle.jv_fewer_members.specs.Keeping.{class_init_name, IsSelectable, KeepsAlike, KeepsField, KeepsInterfaceMethod, KeepsMembers, KeepsMethod}
 use Rattle.jv_fewer_members.specs.Parts.{HasFewerMembers, Places, whole_field, whole_method}
-use Rattle.av_conditions.specs.Members.{RefersToField, RefersToMethod, ResolvesBy, ResolvesCall}
+use Rattle.av_conditions.specs.Members.{RefersToField, RefersToMethod, ResolvesBy}
 use Rattle.av_collected.specs.Naming.{Application, HasInsn}
-use Rattle.av_agreement.specs.Agreement.{AgreesWith, CallsAgree, KeepsEnough, ReferencesAgree}
+use Rattle.av_agreement.specs.Agreement.{AgreesWith, KeepsEnough}
 
 -- the laws of a world and a part of it
 pub record Laws : Type 0 where

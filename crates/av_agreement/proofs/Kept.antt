@@ -1,5 +1,5 @@
 -- What collection keeps.
-use Rattle.std.proofs.Common.{◌≡◌, ◌≢◌, ℕ, zero, suc, ◌+◌, ◌<◌, ◌⊎◌, Bool, false, true, List, [], ◌∷◌, ◌++◌, Some, length, Contains, slice_get, refl, sym, ap, ◌∙◌, subst, inl, inr, arith}
+use Rattle.std.proofs.Common.{◌≡◌, ◌≢◌, ℕ, zero, suc, ◌+◌, ◌⊎◌, Bool, List, [], ◌∷◌, ◌++◌, Some, length, Contains, slice_get, refl, sym, ap, ◌∙◌, subst, inl, inr, arith}
 use Rattle.std.specs.Prelude.{IsTrue}
 use Rattle.std.specs.List.{AllZip}
 use Rattle.std.proofs.lemmas.Bool.{false≢true}
@@ -10,8 +10,8 @@ use Rattle.jv_types.specs.declared.ids.MethodId.{MethodId}
 use Rattle.jv_types.specs.declared.shapes.FieldShape.{FieldShape}
 use Rattle.jv_types.specs.declared.shapes.MethodShape.{MethodShape}
 use Rattle.jv_types.specs.declared.shapes.Shape.{Shape}
-use Rattle.jv_world.specs.Worlds.{HasInterface, HasSuper, HasSuperclass, IsNamed, IsWorld, NamesSuper, Sub, same, link}
-use Rattle.jv_resolve.specs.Members.{init_name, HasField, HasMethod, IsField, IsInheritable, IsMethod}
+use Rattle.jv_world.specs.Worlds.{HasSuper, IsNamed, IsWorld, NamesSuper, Sub, same, link}
+use Rattle.jv_resolve.specs.Members.{init_name, IsField, IsInheritable, IsMethod}
 use Rattle.jv_resolve.proofs.Hierarchy.{one_shape}
 use Rattle.jv_resolve.proofs.MembersLemmas.{field_is, method_is, one_method}
 use Rattle.jv_resolve.proofs.MethodLemmas.{class_declares, interface_declares}
@@ -20,11 +20,11 @@ use Rattle.jv_fewer_members.specs.Keeping.{class_init_name, IsApplication, IsCal
 use Rattle.jv_fewer_members.specs.Parts.{HasFewerMembers, IsFieldKept, IsMethodKept, Places, whole_field, whole_method}
 use Rattle.av_conditions.specs.Members.{ResolvesBy, ResolvesCall}
 use Rattle.av_collected.specs.declared.collected.Collected.{Collected}
-use Rattle.av_collected.specs.Answers.{AreCollected, FailsNot, IsReduced, NamesApplication, as_super}
+use Rattle.av_collected.specs.Answers.{AreCollected, FailsNot, IsReduced, as_super}
 use Rattle.av_collected.specs.Conditions.{AreGiven}
-use Rattle.av_collected.specs.Libraries.{AreWhole, HasShape, IsLibrary as IsLibraryMap, IsOfApplication, IsOfLibrary, LibraryFile}
+use Rattle.av_collected.specs.Libraries.{AreWhole, HasShape, IsLibrary as IsLibraryMap, IsOfLibrary, LibraryFile}
 use Rattle.av_collected.specs.Naming.{Application}
-use Rattle.av_collected.specs.Rules.{ClassNamed, FieldAt, MethodAt, Nothing, Two, IsAboveApplication, own, super, IsCollected, of_nothing, of_two, inherited_method, same_signature, resolved_field, resolved_method}
+use Rattle.av_collected.specs.Rules.{ClassNamed, FieldAt, MethodAt, IsAboveApplication, own, super, IsCollected, of_nothing, of_two, inherited_method, same_signature, resolved_field, resolved_method}
 use Rattle.av_agreement.specs.Agreement.{HaveDistinctMembers, KeepsEnough, KeepsReferences, collected_classes, whole_classes}
 use Rattle.av_agreement.proofs.Paired.{ArePaired, HasCut, cut_itself, cut_picked, paired, zip_append, zip_itself, zip_length, zip_weaker}
 use Rattle.av_agreement.proofs.Picked.{are_picked}

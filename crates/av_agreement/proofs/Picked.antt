@@ -1,5 +1,5 @@
 -- Elements that are picked from a list by their places: where each of them stands in the list.
-use Rattle.std.proofs.Common.{◌≡◌, ℕ, zero, suc, ◌+◌, ◌<◌, List, [], ◌∷◌, Some, length, slice_get, refl, sym, ap, ◌∙◌, subst, inl, inr, arith}
+use Rattle.std.proofs.Common.{◌≡◌, ℕ, zero, suc, ◌+◌, ◌<◌, List, [], ◌∷◌, Some, length, slice_get, refl, sym, ap, subst, inl, inr, arith}
 use Rattle.av_collected.specs.Answers.{Picks}
 
 -- the elements at the places `at k`, of which P holds, are those that were picked

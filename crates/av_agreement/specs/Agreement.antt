@@ -1,5 +1,5 @@
 -- What an application does with its collected classes is what it does with them whole (JVMS 5.4.3, 6.5).
-use Rattle.std.specs.Prelude.{◌≡◌, ◌≢◌, ℕ, ◌++◌, Bool, true, false, List}
+use Rattle.std.specs.Prelude.{◌≡◌, ◌≢◌, ℕ, ◌++◌, true, false, List}
 use Rattle.jv_types.specs.declared.ids.FieldId.{FieldId}
 use Rattle.jv_types.specs.declared.ids.MethodId.{MethodId}
 use Rattle.jv_types.specs.declared.instruction.Arg.TheVariants.{Field, Method}

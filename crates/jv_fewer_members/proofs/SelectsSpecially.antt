@@ -15,6 +15,7 @@ use Rattle.jv_resolve.proofs.Hierarchy.{not_below_itself, one_shape, sub_from_pr
 use Rattle.jv_resolve.proofs.MembersLemmas.{declared_here, declares_one, one_method}
 use Rattle.jv_resolve.proofs.MethodLemmas.{class_declares, interface_declares}
 use Rattle.jv_resolve.proofs.PlacesLemmas.{among_from_get}
+use Rattle.jv_resolve.proofs.ReferenceLemmas.{begins_named}
 use Rattle.jv_resolve.proofs.SpecialLemmas.{superclass_from}
 use Rattle.jv_two_worlds.specs.Agreeing.{Agree}
 use Rattle.jv_fewer_members.specs.Keeping.{IsSelectable, KeepsMembers}
@@ -28,14 +29,10 @@ use Rattle.jv_fewer_members.proofs.Together.{KeepsAbove}
 
 -- ---- where the search starts
 
--- the type has this name, or it is an array
-begins_by_name : (w : List Shape) (r : MethodRef) (c : ℕ) (name : List ℕ) → named_class r.class ≡ Some name → BeginsAt w r.class c → IsNamed w c name
-begins_by_name w r c name e begins = subst (λ (o : Option (List ℕ)). IsNamed w c (unwrap_or o object_name)) e begins
-
--- the start is above no class that the reference names, and the class is that or above the start
+-- the class that the reference names is the start or above it
 start_below : (w : List Shape) (from : ℕ) (r : MethodRef) (name : List ℕ) (start k : ℕ) → IsWorld w → SpecialStart w from r name start → BeginsAt w r.class k → Sub w start k
 start_below w from r name start k world (inl (call, step)) begins =
-    let is : call.2 ≡ k = world.numbered.distinct call.2 k call.1 call.4 (begins_by_name w r k call.1 call.3 begins) in
+    let is : call.2 ≡ k = world.numbered.distinct call.2 k call.1 call.4 (begins_named w r.class (Some call.1) k (sym call.3) begins) in
     let up = superclass_from w from start call.2 world step call.5 in
     subst (Sub w start) is (climbs_above w up.0 start call.2 up.1)
 start_below w from r name start k world (inr (other, here)) begins =
@@ -60,9 +57,9 @@ above_interface w c d world interface named_object =
 
 -- a class or an array is no interface
 no_interface_start : (w : List Shape) (r : MethodRef) (m : MethodId) (start : ℕ) → IsWorld w → ResolvesMethod w r m → BeginsAt w r.class start → IsInterfaceClass w start → (o : Option (List ℕ)) → named_class r.class ≡ o → ⊥
-no_interface_start w r m start world p begins interface (Some name) e = p.no_interface (name, start, e, begins_by_name w r start name e begins, interface)
+no_interface_start w r m start world p begins interface (Some name) e = p.no_interface (name, start, e, begins_named w r.class (Some name) start (sym e) begins, interface)
 no_interface_start w r m start world p begins interface None e =
-    let object : IsNamed w start object_name = subst (λ (o : Option (List ℕ)). IsNamed w start (unwrap_or o object_name)) e begins in
+    let object : IsNamed w start object_name = begins_named w r.class None start (sym e) begins in
     not_below_itself w world start start (start, inl (above_interface w start start world interface object), sub_itself w start) refl
 
 -- ---- what the reference resolves to stands at or above the class that it names
@@ -147,7 +144,7 @@ module _ {w v : List Shape} {at : Places} (fewer : HasFewerMembers w v at) (keep
         by_kind : Resolves w r (whole_method at resolved) → whole_method at resolved ≡ m
         by_kind (inl q) = absurd (no_interface_start w r (whole_method at resolved) start fewer.world q begins interface (named_class r.class) refl)
         by_kind (inr q) =
-            let is : q.start ≡ start = fewer.world.numbered.distinct q.start start q.name q.begins (begins_by_name w r start q.name q.names begins) in
+            let is : q.start ≡ start = fewer.world.numbered.distinct q.start start q.name q.begins (begins_named w r.class (Some q.name) start (sym q.names) begins) in
             by_interface (subst (λ (c : ℕ). ResolvesInInterface w c r.name r.desc (whole_method at resolved)) is q.found)
 
     no_own_into : ((n : MethodId) → n.class.number ≡ start → IsSpecialCandidate v resolved r.name r.desc n → ⊥)

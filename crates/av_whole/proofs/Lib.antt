@@ -1,3 +1,0 @@
-mod Picked
-mod Built
-mod Inside
