@@ -59,25 +59,27 @@ abbrev IsOfStack : Place → Type 0
 IsOfStack (AtLocal local) = ⊥
 IsOfStack (AtStack place) = Unit {0}
 
+-- what is said of a word holds of it
+abbrev SaysKind : WordKind → Held → Type 0
+SaysKind kind held = (kind ≡ Unknown) ⊎ (kind ≡ kind_of_held held)
+
+-- the kinds of words that are given, and the words
+abbrev said_given : Insn → Words WordKind → Place → WordKind
+said_given insn said = kind_given insn (length said.stack)
+
+abbrev held_given : Insn → Words Held → List Held → Place → Held
+held_given insn words given = given_word insn (length words.stack) given
+
 module _ (insn : Insn) (said : Words WordKind) (words : Words Held) (given : List Held)
     (depth : length said.stack ≡ length words.stack)
     (gives : map kind_of_held given ≡ flat_map cell_words (cells_given insn.op insn.arg))
     (locals : SaysOnly said.locals (map kind_of_held words.locals))
     (stack : SaysOnly said.stack (map kind_of_held words.stack)) where
-  abbrev said_given : Place → WordKind
-  said_given = kind_given insn (length said.stack)
-
-  abbrev held_given : Place → Held
-  held_given = given_word insn (length words.stack) given
-
-  abbrev SaysKind : WordKind → Held → Type 0
-  SaysKind kind held = (kind ≡ Unknown) ⊎ (kind ≡ kind_of_held held)
-
-  given_says : (to : Place) → SaysKind (said_given to) (held_given to)
+  given_says : (to : Place) → SaysKind (said_given insn said to) (held_given insn words given to)
   given_says (AtLocal local) = inr refl
   given_says (AtStack place) =
-      let P : ℕ → Type 0 = λ n. SaysKind (slice_index_or (flat_map cell_words (cells_given insn.op insn.arg)) (place - words_below insn n) Unknown) (held_given (AtStack place)) in
-      let Q : List WordKind → Type 0 = λ kinds. SaysKind (slice_index_or kinds (place - words_below insn (length words.stack)) Unknown) (held_given (AtStack place)) in
+      let P : ℕ → Type 0 = λ n. SaysKind (slice_index_or (flat_map cell_words (cells_given insn.op insn.arg)) (place - words_below insn n) Unknown) (held_given insn words given (AtStack place)) in
+      let Q : List WordKind → Type 0 = λ kinds. SaysKind (slice_index_or kinds (place - words_below insn (length words.stack)) Unknown) (held_given insn words given (AtStack place)) in
       subst P (sym depth) (subst Q gives (given_kinds given (place - words_below insn (length words.stack))))
 
   -- what is said of the place before holds of the word there
@@ -100,39 +102,39 @@ module _ (insn : Insn) (said : Words WordKind) (words : Words Held) (given : Lis
 
   -- the word at a place afterwards is of the kind that is said of it
   after_says : (to : Place) → ((from : Place) → source_of insn (length words.stack) to ≡ Some from → word_at said from ≡ None → IsOfStack from)
-      → SaysKind (word_after insn said_given said to) (word_after insn held_given words to)
+      → SaysKind (word_after insn (said_given insn said) said to) (word_after insn (held_given insn words given) words to)
   after_says to of_stack = by (source_of insn (length words.stack) to) refl
     where
       same : (o : Option Place) → source_of insn (length words.stack) to ≡ o → source_of insn (length said.stack) to ≡ o
       same o e = ap (λ (n : ℕ). source_of insn n to) depth ∙ e
 
-      both : (kind : WordKind) (held : Held) → word_after insn said_given said to ≡ kind → word_after insn held_given words to ≡ held → SaysKind kind held
-          → SaysKind (word_after insn said_given said to) (word_after insn held_given words to)
+      both : (kind : WordKind) (held : Held) → word_after insn (said_given insn said) said to ≡ kind → word_after insn (held_given insn words given) words to ≡ held → SaysKind kind held
+          → SaysKind (word_after insn (said_given insn said) said to) (word_after insn (held_given insn words given) words to)
       both kind held k h says =
-          let P : WordKind → Type 0 = λ x. SaysKind x (word_after insn held_given words to) in
+          let P : WordKind → Type 0 = λ x. SaysKind x (word_after insn (held_given insn words given) words to) in
           let Q : Held → Type 0 = λ x. SaysKind kind x in
           subst P (sym k) (subst Q (sym h) says)
 
       nothing : (from : Place) → source_of insn (length words.stack) to ≡ Some from → word_at said from ≡ None → word_at words from ≡ None
-          → SaysKind (word_after insn said_given said to) (word_after insn held_given words to)
+          → SaysKind (word_after insn (said_given insn said) said to) (word_after insn (held_given insn words given) words to)
       nothing from e s h =
-          both (said_given to) (held_given to)
-          (ap (λ (o : Option Place). option_map_or (λ (from : Place). unwrap_or (word_at said from) (said_given to)) o (said_given to)) (same (Some from) e) ∙ ap (λ (o : Option WordKind). unwrap_or o (said_given to)) s)
-          (ap (λ (o : Option Place). option_map_or (λ (from : Place). unwrap_or (word_at words from) (held_given to)) o (held_given to)) e ∙ ap (λ (o : Option Held). unwrap_or o (held_given to)) h)
+          both (said_given insn said to) (held_given insn words given to)
+          (ap (λ (o : Option Place). option_map_or (λ (from : Place). unwrap_or (word_at said from) (said_given insn said to)) o (said_given insn said to)) (same (Some from) e) ∙ ap (λ (o : Option WordKind). unwrap_or o (said_given insn said to)) s)
+          (ap (λ (o : Option Place). option_map_or (λ (from : Place). unwrap_or (word_at words from) (held_given insn words given to)) o (held_given insn words given to)) e ∙ ap (λ (o : Option Held). unwrap_or o (held_given insn words given to)) h)
           (given_says to)
 
       from_place : (from : Place) (o : Option WordKind) → source_of insn (length words.stack) to ≡ Some from → word_at said from ≡ o
-          → SaysKind (word_after insn said_given said to) (word_after insn held_given words to)
+          → SaysKind (word_after insn (said_given insn said) said to) (word_after insn (held_given insn words given) words to)
       from_place from None e s = nothing from e s (none_before from (of_stack from e s) s)
       from_place from (Some kind) e s =
-          let k = word_left insn said_given said from to kind (same (Some from) e) s in
+          let k = word_left insn (said_given insn said) said from to kind (same (Some from) e) s in
           ⊎_elim
           (λ unknown. inl (k ∙ unknown))
-          (λ there. both kind there.0 k (word_left insn held_given words from to there.0 e there.1) (inr (sym there.2)))
+          (λ there. both kind there.0 k (word_left insn (held_given insn words given) words from to there.0 e there.1) (inr (sym there.2)))
           (before_says from kind s)
 
-      by : (o : Option Place) → source_of insn (length words.stack) to ≡ o → SaysKind (word_after insn said_given said to) (word_after insn held_given words to)
-      by None e = both (said_given to) (held_given to) (word_given insn said_given said to (same None e)) (word_given insn held_given words to e) (given_says to)
+      by : (o : Option Place) → source_of insn (length words.stack) to ≡ o → SaysKind (word_after insn (said_given insn said) said to) (word_after insn (held_given insn words given) words to)
+      by None e = both (said_given insn said to) (held_given insn words given to) (word_given insn (said_given insn said) said to (same None e)) (word_given insn (held_given insn words given) words to e) (given_says to)
       by (Some from) e = from_place from (word_at said from) e refl
 
   -- ---- all words
@@ -141,12 +143,13 @@ module _ (insn : Insn) (said : Words WordKind) (words : Words Held) (given : Lis
       → ((local : ℕ) (from : Place) → local < length said.locals → source_of insn (length words.stack) (AtLocal local) ≡ Some from → word_at said from ≡ None → IsOfStack from)
       → SaysOnly (kinds_left insn said).locals (map kind_of_held (leave insn given words).locals)
   left_locals wide of_stack place kind at =
-      let counted : length (kinds_left insn said).locals ≡ length said.locals = length-map-range_with_len _ 0 (length said.locals) in
+      let counted : length (kinds_left insn said).locals ≡ length said.locals = length-map-range_with_len (λ (local : ℕ). word_after insn (said_given insn said) said (AtLocal local)) 0 (length said.locals) in
       let within : place < length (kinds_left insn said).locals = slice_get_within (kinds_left insn said).locals place kind at in
       let lt : place < length said.locals = omega (arith, counted) in
-      let s = stands_after insn said_given said (AtLocal place) lt in
-      let h = stands_after insn held_given words (AtLocal place) (omega arith) in
-      let is : word_after insn said_given said (AtLocal place) ≡ kind = same_Some _ kind (sym s ∙ at) in
+      let s = stands_after insn (said_given insn said) said (AtLocal place) lt in
+      let lt_held : place < length words.locals = omega arith in
+      let h = stands_after insn (held_given insn words given) words (AtLocal place) lt_held in
+      let is : word_after insn (said_given insn said) said (AtLocal place) ≡ kind = same_Some (word_after insn (said_given insn said) said (AtLocal place)) kind (sym s ∙ at) in
       ⊎_elim
       (λ unknown. inl (sym is ∙ unknown))
       (λ says. inr (slice_get-map kind_of_held (leave insn given words).locals place ∙ ap (option_map kind_of_held) h ∙ ap Some (sym says ∙ is)))
@@ -155,13 +158,13 @@ module _ (insn : Insn) (said : Words WordKind) (words : Words Held) (given : Lis
   pub left_stack : ((place : ℕ) (from : Place) → source_of insn (length words.stack) (AtStack place) ≡ Some from → word_at said from ≡ None → IsOfStack from)
       → SaysOnly (kinds_left insn said).stack (map kind_of_held (leave insn given words).stack)
   left_stack of_stack place kind at =
-      let counted : length (kinds_left insn said).stack ≡ depth_after insn (length said.stack) = length-map-range_with_len _ 0 (depth_after insn (length said.stack)) in
+      let counted : length (kinds_left insn said).stack ≡ depth_after insn (length said.stack) = length-map-range_with_len (λ (n : ℕ). word_after insn (said_given insn said) said (AtStack n)) 0 (depth_after insn (length said.stack)) in
       let within : place < length (kinds_left insn said).stack = slice_get_within (kinds_left insn said).stack place kind at in
       let lt : place < depth_after insn (length said.stack) = omega (arith, counted) in
       let lt_held : place < depth_after insn (length words.stack) = subst (λ (n : ℕ). place < depth_after insn n) depth lt in
-      let s = stands_after insn said_given said (AtStack place) lt in
-      let h = stands_after insn held_given words (AtStack place) lt_held in
-      let is : word_after insn said_given said (AtStack place) ≡ kind = same_Some _ kind (sym s ∙ at) in
+      let s = stands_after insn (said_given insn said) said (AtStack place) lt in
+      let h = stands_after insn (held_given insn words given) words (AtStack place) lt_held in
+      let is : word_after insn (said_given insn said) said (AtStack place) ≡ kind = same_Some (word_after insn (said_given insn said) said (AtStack place)) kind (sym s ∙ at) in
       ⊎_elim
       (λ unknown. inl (sym is ∙ unknown))
       (λ says. inr (slice_get-map kind_of_held (leave insn given words).stack place ∙ ap (option_map kind_of_held) h ∙ ap Some (sym says ∙ is)))
@@ -169,9 +172,9 @@ module _ (insn : Insn) (said : Words WordKind) (words : Words Held) (given : Lis
 
   pub left_depth : length (kinds_left insn said).stack ≡ length (map kind_of_held (leave insn given words).stack)
   left_depth =
-      length-map-range_with_len _ 0 (depth_after insn (length said.stack))
+      length-map-range_with_len (λ (n : ℕ). word_after insn (said_given insn said) said (AtStack n)) 0 (depth_after insn (length said.stack))
       ∙ ap (depth_after insn) depth
-      ∙ sym (length-map (leave insn given words).stack kind_of_held ∙ length-map-range_with_len _ 0 (depth_after insn (length words.stack)))
+      ∙ sym (length-map (leave insn given words).stack kind_of_held ∙ length-map-range_with_len (λ (n : ℕ). word_after insn (held_given insn words given) words (AtStack n)) 0 (depth_after insn (length words.stack)))
 
 -- ---- where words are left from
 
@@ -181,7 +184,7 @@ local_before : (insn : Insn) (said : Words WordKind) (depth local : ℕ) (from :
 local_before insn said depth local from lt e none = by (is_written insn local) (is_store insn.op) e
   where
     by : (written store : Bool) → cond written (cond store (Some (AtStack (words_below insn depth + (local - local_of insn.op insn.arg)))) None) (Some (AtLocal local)) ≡ Some from → IsOfStack from
-    by true true e = subst IsOfStack (same_Some _ from e) tt
+    by true true e = subst IsOfStack (same_Some (AtStack (words_below insn depth + (local - local_of insn.op insn.arg))) from e) tt
     by true false e = absurd (none-some from e)
     by false store e =
         let is : AtLocal local ≡ from = same_Some (AtLocal local) from e in
@@ -263,13 +266,14 @@ stack_before insn frame depth place from own reads e none = by (ltb place (words
       where
         moved : (o : Option ℕ) → option_map (λ (from : ℕ). AtStack (words_below insn depth + from)) o ≡ Some from → IsOfStack from
         moved None e = absurd (none-some from e)
-        moved (Some n) e = subst IsOfStack (same_Some _ from e) tt
+        moved (Some n) e = subst IsOfStack (same_Some (AtStack (words_below insn depth + n)) from e) tt
     loaded None load m l e = by_load (is_load insn.op) (ltb (place - words_below insn depth) (words_given insn)) refl refl e
       where
         by_load : (a b : Bool) → is_load insn.op ≡ a → ltb (place - words_below insn depth) (words_given insn) ≡ b
             → cond (a && b) (Some (AtLocal (local_of insn.op insn.arg + (place - words_below insn depth)))) None ≡ Some from → IsOfStack from
         by_load true true a b e =
-            let is : AtLocal (local_of insn.op insn.arg + (place - words_below insn depth)) ≡ from = same_Some _ from e in
+            let is : AtLocal (local_of insn.op insn.arg + (place - words_below insn depth)) ≡ from =
+                same_Some (AtLocal (local_of insn.op insn.arg + (place - words_below insn depth))) from e in
             let width : words_given insn ≡ width_of (cells_given insn.op insn.arg) =
                 ap (λ (o : Option Shuffle). option_map_or (λ (shuffle : Shuffle). length shuffle.order) o (width_of (cells_given insn.op insn.arg))) m in
             let lt : place - words_below insn depth < width_of (cells_given insn.op insn.arg) =
@@ -287,14 +291,14 @@ stack_before insn frame depth place from own reads e none = by (ltb place (words
 -- a frame has no more local variables than the widest
 widest_has : (frames : List (ℕ × Frame)) (pc : ℕ) (frame : Frame) → at_offset pc frames ≡ Some frame → length frame.locals ≤ widest_frame frames
 widest_has [] pc frame e = absurd (none-some frame e)
-widest_has (row ∷ rows) pc frame e = by (eqb row.0 pc) e
+widest_has (row ∷ rows) pc frame e = by (eqb row.0 pc) (λ h. widest_has rows pc frame h) e
   where
-    by : (b : Bool) → cond b (Some row.1) (at_offset pc rows) ≡ Some frame → length frame.locals ≤ max (length row.1.locals) (widest_frame rows)
-    by true e =
+    by : (b : Bool) → (at_offset pc rows ≡ Some frame → length frame.locals ≤ widest_frame rows) → cond b (Some row.1) (at_offset pc rows) ≡ Some frame → length frame.locals ≤ max (length row.1.locals) (widest_frame rows)
+    by true more e =
         let is : row.1 ≡ frame = same_Some row.1 frame e in
         let counts : length row.1.locals ≡ length frame.locals = ap (λ (f : Frame). length f.locals) is in
         omega (arith, counts)
-    by false e = let more = widest_has rows pc frame e in omega (arith, more)
+    by false more e = let within : length frame.locals ≤ widest_frame rows = more e in omega arith
 
 -- the frame at the place where an instruction goes fits what it leaves
 fits_there : (w : List Shape) (spot : Spot) (insn : Insn) (branch to : ℕ) → IsKindSafe w spot.framed → (at : FitsAt spot.framed.frames spot.pc (kinds_held spot.words))
@@ -329,14 +333,15 @@ goes_on_kinds w spot insn given branch to safe kinds is gives goes =
         (λ local from lt e none. local_before insn said (length words.stack) local from lt e none) in
     let stack = left_stack insn said words given depth gives at.fits.locals at.fits.stack
         (λ place from e none. stack_before insn frame (length words.stack) place from here.operands here.reads e none) in
-    let kept : length (leave insn given words).locals ≡ length words.locals = length-map-range_with_len _ 0 (length words.locals) in
+    let kept : length (leave insn given words).locals ≡ length words.locals =
+        length-map-range_with_len (λ (local : ℕ). word_after insn (held_given insn words given) words (AtLocal local)) 0 (length words.locals) in
     record {
       fits = record {
         frame = there.frame;
         stands = there.stands;
         fits = record {
-          locals = said_through _ _ _ there.fits.locals locals;
-          stack = said_through _ _ _ there.fits.stack stack;
+          locals = said_through (kinds_of there.frame).locals (kinds_left insn said).locals (map kind_of_held (leave insn given words).locals) there.fits.locals locals;
+          stack = said_through (kinds_of there.frame).stack (kinds_left insn said).stack (map kind_of_held (leave insn given words).stack) there.fits.stack stack;
           depth = there.fits.depth ∙ left_depth insn said words given depth gives at.fits.locals at.fits.stack;
         };
       };

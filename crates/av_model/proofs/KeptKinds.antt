@@ -74,7 +74,7 @@ caught_kinds w spot handler thrown safe kinds among covers =
       fits = record {
         frame = there.frame;
         stands = there.stands;
-        fits = record { locals = said_through _ _ _ there.fits.locals at.fits.locals; stack = there.fits.stack; depth = there.fits.depth };
+        fits = record { locals = said_through (kinds_of there.frame).locals (kinds_of at.frame).locals (map kind_of_held spot.words.locals) there.fits.locals at.fits.locals; stack = there.fits.stack; depth = there.fits.depth };
       };
       wide = kinds.wide;
     }

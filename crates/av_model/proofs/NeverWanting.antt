@@ -1,6 +1,6 @@
 -- An instruction of a kind safe method finds its operands in a frame of the right kinds.
 use Rattle.std.proofs.Common.{◌≡◌, ℕ, zero, suc, ◌+◌, Bool, false, List, [], ◌∷◌, ◌++◌, Option, Some, map, length, take, drop, refl, sym, ap, subst, ◌∙◌, ⊎_elim, arith}
-use Rattle.std.specs.Prelude.{slice_get}
+use Rattle.std.specs.Prelude.{slice_get, slice_index_or}
 use Rattle.std.specs.List.{flat_map}
 use Rattle.std.proofs.lemmas.List.{append-nil, length-map, take-append-drop}
 use Rattle.std.proofs.lemmas.Option.{none-some}
@@ -134,7 +134,7 @@ local_kinds cell zero second types h =
     let first = take count types in
     let rest = drop count types in
     let split = kinds_split second first rest in
-    let held = held_kinds (cell ∷ []) second [] first (first, [], sym (append-nil first), h, refl) in
+    let held = held_kinds (cell ∷ []) second [] first (first, ([], (sym (append-nil first), h, refl))) in
     ([], split.0, refl,
     ap (kinds_after second) (sym (take-append-drop count types)) ∙ split.1 ∙ ap (λ (ks : List WordKind). ks ++ split.0) held)
 local_kinds cell (suc local) second [] h = absurd (holds_some cell h)
@@ -189,6 +189,6 @@ is_not_wanting w spot safe kinds =
         whole = taken.2;
         takes = taken.3;
         moves = finds_words (effect_of insn).shuffle (length frame.stack) (length stack) depth here.moves;
-        reads = λ k d lt. finds_local frame locals stack at.fits.locals at.fits.stack depth _ (here.reads k d lt);
+        reads = λ k d lt. finds_local frame locals stack at.fits.locals at.fits.stack depth (slice_index_or (effect_of insn).reads k d) (here.reads k d lt);
       };
     }

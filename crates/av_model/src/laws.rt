@@ -1,6 +1,6 @@
 //! Laws of the machine. Each function does nothing, and its contract is the law.
 
-ghost use Rattle.std.specs.Prelude.{◌≡◌, ℕ, List, [], None, Some, map, Contains};
+ghost use Rattle.std.specs.Prelude.{◌≡◌, ℕ, IsTrue, List, [], None, Some, map, Contains};
 ghost use Rattle.jv_types.specs.declared.body.Handler.{Handler};
 ghost use Rattle.jv_types.specs.declared.frames.FramedBody.{FramedBody};
 ghost use Rattle.jv_types.specs.declared.ids.ClassId.{ClassId};
@@ -11,7 +11,7 @@ ghost use Rattle.jv_insn.specs.Effects.{effect_of};
 ghost use Rattle.jv_insn.specs.KindSafe.{Covers, IsKindSafe, entry_words, method_of};
 ghost use Rattle.av_states.specs.declared.held.Held.{Held};
 ghost use Rattle.av_states.specs.declared.event.Choice.{Choice};
-ghost use Rattle.av_states.specs.declared.event.Choice.TheVariants.{Raise};
+ghost use Rattle.av_states.specs.declared.event.Choice.TheVariants.{Go, Raise};
 ghost use Rattle.av_states.specs.declared.run_type.RunType.{RunType, Lib};
 ghost use Rattle.av_states.specs.declared.state.Activation.{Activation};
 ghost use Rattle.av_states.specs.declared.state.State.{State};
@@ -20,9 +20,10 @@ ghost use Rattle.av_model.specs.Events.{MethodCall};
 ghost use Rattle.av_model.specs.Keeping.{KeepsObjects};
 ghost use Rattle.av_model.specs.LibraryTypes.{IsLibraryClass, IsRaised, IsUnseenClass, NeverBelowApplication};
 ghost use Rattle.av_model.specs.NeverWanting.{HasKinds, IsNotWanting, entry_spot, handler_spot, spot_after};
-ghost use Rattle.av_model.specs.Operands.{HoldCells, kind_of_held};
+ghost use Rattle.av_model.specs.Operands.{HasOperands, HoldCells, kind_of_held};
 ghost use Rattle.av_model.specs.RunTypes.{IsOfClass};
 ghost use Rattle.av_model.specs.Spots.{Spot, GoesTo, IsInsnAt, StandsAt};
+ghost use Rattle.av_model.specs.Words.{is_word_insn};
 
 /// Each step keeps the objects that were made: their numbers, their types and their labels.
 pub fn steps_keep_objects()
@@ -60,4 +61,11 @@ pub fn frames_keep_their_kinds()
         → method_of w framed.method ≡ Some shape → map kind_of_held words ≡ (entry_words shape).locals → HasKinds (entry_spot framed words) }
     ensures caught { (w : List Shape) (spot : Spot) (handler : Handler) (thrown : ℕ) → IsKindSafe w spot.framed → HasKinds spot
         → Contains spot.framed.body.handlers handler → Covers handler spot.pc → HasKinds (handler_spot spot handler thrown) }
+{}
+
+/// An instruction that only moves words, and isn't wanting, goes on to each of its places: either branch may be taken.
+pub fn words_go_on()
+    ensures { (w : List Shape) (methods : List FramedBody) (old : State) (thread : ℕ) (below : List Activation) (spot : Spot) (insn : Insn)
+        (taken : List Held) (branch to : ℕ) → StandsAt methods old thread None below spot → IsInsnAt spot insn → HasOperands insn spot.words taken
+        → IsTrue (is_word_insn insn) → GoesTo spot insn branch to → (new : State) × AppStep w methods old thread (Go branch 0) [] new }
 {}

@@ -2,11 +2,11 @@
 //! collected classes and members are known.
 #![tactic(auto)]
 
+mod first;
 mod laws;
-mod start;
 
+pub use first::start;
 pub use laws::{
     frames_keep_their_kinds, instructions_are_not_wanting, raises_are_steps, steps_keep_objects,
-    unseen_types_stay_above,
+    unseen_types_stay_above, words_go_on,
 };
-pub use start::start;
