@@ -1,17 +1,15 @@
 -- Bases with dimensions, and the reference types that they are.
-use Rattle.std.proofs.Common.{◌≡◌, ℕ, suc, ◌+◌, ◌<◌, ◌⊎◌, List, Some, slice_get, refl, sym, ap, ◌∙◌, subst, inl, inr, arith}
+use Rattle.std.proofs.Common.{◌≡◌, ℕ, suc, ◌<◌, ◌⊎◌, List, Some, refl, sym, ap, ◌∙◌, subst, inl, inr, arith}
 use Rattle.std.specs.Prelude.{◌↔◌}
 use Rattle.std.proofs.lemmas.Bool.{cases_lt}
-use Rattle.jv_types.specs.declared.desc.PrimType.{PrimType}
 use Rattle.jv_types.specs.declared.desc.RefType.{RefType, Class, PrimArray}
-use Rattle.jv_types.specs.declared.ids.ClassId.{ClassId}
 use Rattle.jv_types.specs.declared.label.LibBase.{LibBase}
 use Rattle.jv_types.specs.declared.label.LibBase.TheVariants.{Class as LibClass, Prim as LibPrim}
 use Rattle.jv_types.specs.declared.shapes.Shape.{Shape}
 use Rattle.jv_world.specs.Instances.{IsArraySuper, IsInstanceInDims, IsInstanceOf, IsSubNamed}
 use Rattle.jv_world.specs.Worlds.{HaveDistinctNames, IsNamed, Sub, same}
 use Rattle.jv_instances.specs.TypesInDims.{IsTypeInDims}
-use Rattle.jv_instances.proofs.Arrays.{IsInstanceAround, around}
+use Rattle.jv_instances.proofs.Arrays.{around}
 
 -- what is below one more is below, or even
 cases_le : (m n : ℕ) → m < suc n → (m < n) ⊎ (n ≡ m)
