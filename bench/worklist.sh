@@ -1,7 +1,8 @@
 #!/usr/bin/env bash
-# Times `close` on ten million facts of 32 bytes, each of which forces four: the program `measure close`, and
-# beside it the same work in plain Rust over std's BTreeSet (bench/worklist.rs, rustc -O), where rustc is
-# installed. Prints a row a program: facts, processor seconds, facts a second, and peak bytes of memory a fact.
+# Times `close` on ten million facts of 32 bytes, each of which forces four (`measure close`), and on a rule of two
+# premises, over three million numbers on two sides that meet where both have one (`measure join`); beside them the
+# same work in plain Rust over std's BTreeSet (bench/worklist.rs, rustc -O), where rustc is installed. Prints a row a
+# program: facts, processor seconds, facts a second, and peak bytes of memory a fact.
 set -eu
 top=$(cd "$(dirname "$0")/.." && pwd)
 work=$(mktemp -d)
@@ -16,11 +17,11 @@ fi
 python3 - "$ours" "$theirs" "${1:-10000000}" <<'PY'
 import os, subprocess, sys
 
-ours, theirs, size = sys.argv[1:]
+ours, theirs, size = sys.argv[1], sys.argv[2], int(sys.argv[3])
 
 
-def measure(name, words):
-    child = subprocess.Popen(words + [size], stdout=subprocess.PIPE)
+def measure(name, words, size):
+    child = subprocess.Popen(words + [str(size)], stdout=subprocess.PIPE)
     facts = int(child.stdout.read())
     _, status, used = os.wait4(child.pid, 0)
     assert status == 0, name
@@ -30,9 +31,10 @@ def measure(name, words):
     return facts
 
 
-count = measure("measure close", [ours, "close"])
-if theirs:
-    assert measure("plain Rust", [theirs]) == count
-else:
-    print("no rustc")
+for work, size in (("close", size), ("join", 3 * size // 10)):
+    count = measure("measure " + work, [ours, work], size)
+    if theirs:
+        assert measure("plain Rust, " + work, [theirs, work], size) == count
+    else:
+        print("no rustc")
 PY

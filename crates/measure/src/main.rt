@@ -22,6 +22,8 @@
 //!   Prints how many were resolved and selected.
 //! - `close` SIZE: goes over a graph of so many nodes, each with four successors, from one of them; prints how
 //!   many it found.
+//! - `join` SIZE: closes a rule of two premises: two sides of so many numbers each force the next number, and
+//!   where both have one, they meet; prints how many facts it found.
 //! - `sample`: a little of each, over the folder in which it runs.
 #![tactic(auto)]
 
@@ -33,6 +35,7 @@ mod members;
 mod methods;
 mod node;
 mod rounds;
+mod sides;
 mod sources;
 mod texts;
 mod verifying;
@@ -43,6 +46,7 @@ use classes::measure_classes;
 use graph::measure_close;
 use members::measure_members;
 use methods::measure_methods;
+use sides::measure_join;
 use std::env;
 use texts::measure_texts;
 use worlds::measure_world;
@@ -69,7 +73,8 @@ fn sample(rt: &HostRuntime) -> Result<()> {
     measure_methods(rt, 2, "verify/program", "verify/library")?;
     measure_world(rt, "lattice", 30, 10)?;
     measure_members(rt, 5, 10, 3, 1)?;
-    measure_close(rt, 1000)
+    measure_close(rt, 1000)?;
+    measure_join(rt, 1000)
 }
 
 /// The piece of work that the words name.
@@ -96,6 +101,7 @@ fn work(rt: &HostRuntime, words: &[String]) -> Result<()> {
             number(words, 4)?,
         ),
         "close" => measure_close(rt, number(words, 1)?),
+        "join" => measure_join(rt, number(words, 1)?),
         "sample" => sample(rt),
         _ => bail!("{USAGE}"),
     }
