@@ -2,7 +2,7 @@
 use Rattle.std.proofs.Common.{◌≡◌, ℕ, zero, suc, ◌+◌, ◌<◌, ◌≤◌, ◌-◌, Bool, true, false, ltb, List, [], ◌∷◌, ◌++◌, length, take, drop, get_or, All, Option, Some, None, IsTrue, sym, subst, refl, ap, ◌∙◌, ◌⊎◌, inl, inr, arith}
 use Rattle.std.specs.Prelude.{◌↔◌, Contains, IfSome, IfNone, min}
 use Rattle.std.specs.List.{AllZip}
-use Rattle.std.specs.List.Sorted.{IsPartitionPoint}
+use Rattle.std.specs.List.Sorted.{IsNonDecreasingBy, IsPartitionPoint}
 use Rattle.std.proofs.lemmas.Bool.{cases_lt}
 use Rattle.std.proofs.lemmas.Bool.Decides.{nat_tests}
 use Rattle.std.proofs.lemmas.List.{get_or-take, get_or-drop, get_or_default, length-drop, length-take-le, take_all, take_more}
@@ -35,24 +35,6 @@ right_target w rows there handler stands throwable stack = λ frame. (
       record { locals = at.locals; flag = at.flag },
 )
 
--- no frame satisfies a handler that catches something else, that has no frame at its target, or that has another
--- stack there
-pub no_throwable : (w : List Shape) (rows : List (ℕ × Frame)) (handler : Handler) → (IsSubNamed w (caught_name handler.catch) throwable_name → ⊥) → IsTarget w rows handler None
-no_throwable w rows handler none = λ frame. (λ h. absurd h, λ h. none h.throwable)
-
-pub no_frame : (w : List Shape) (rows : List (ℕ × Frame)) (handler : Handler) → at_offset handler.target rows ≡ None → IsTarget w rows handler None
-no_frame w rows handler none = λ frame. (λ h. absurd h, λ h. let clash : None ≡ Some h.fits.0 = sym none ∙ h.fits.1 in absurd cc)
-
-pub wrong_stack : (w : List Shape) (rows : List (ℕ × Frame)) (there : Frame) (handler : Handler) → at_offset handler.target rows ≡ Some there
-    → (AllZip (IsAssignable w) (Class (caught_name handler.catch) ∷ []) there.stack → ⊥) → IsTarget w rows handler None
-wrong_stack w rows there handler stands none = λ frame. (
-  λ h. absurd h,
-  λ h.
-      let is : there ≡ h.fits.0 = given_twice (at_offset handler.target rows) there h.fits.0 stands h.fits.1 in
-      let at : IsFrameAssignable w (handler_frame frame handler) there = subst (IsFrameAssignable w (handler_frame frame handler)) (sym is) h.fits.2 in
-      none at.stack,
-)
-
 -- ---- the rows that a handler covers
 
 below : (m n : ℕ) → ltb m n ≡ true → m < n
@@ -60,6 +42,13 @@ below m n e = grind (arith, nat_tests)
 
 not_below : (m n : ℕ) → ltb m n ≡ false → n ≤ m
 not_below m n e = grind (arith, nat_tests)
+
+-- the offsets of the last rows rise too
+pub drops_rise : (rows : List (ℕ × Frame)) (n : ℕ) → IsTrue (rises_from 0 rows) → IsNonDecreasingBy (λ (row : ℕ × Frame). row.0) (drop n rows)
+drops_rise rows n rises = λ i j row le lt.
+    let count : length (drop n rows) ≡ length rows - n = length-drop n rows in
+    let rise = starts_rise 0 rows rises (n + i) (n + j) row (omega arith) (omega (arith, count)) in
+    rw (get_or-drop n rows i row, get_or-drop n rows j row) rise
 
 -- rows that are cut out by two searches
 pub cut_out : (rows : List (ℕ × Frame)) (start end low high : ℕ) → IsPartitionPoint (λ (row : ℕ × Frame). ltb row.0 start ≡ true) (λ (row : ℕ × Frame). ltb row.0 start ≡ false) rows low
@@ -74,7 +63,8 @@ cut_out rows start end low high lower upper within more = record {
       let there : get_or (take high (drop low rows)) place row ≡ get_or (drop low rows) place row = get_or-take high (drop low rows) place row here in
       let under : (get_or (drop low rows) place row).0 < end = below _ end (upper.0 place row (omega arith) here) in
       let over : start ≤ (get_or rows (low + place) row).0 = not_below _ start (lower.1 (low + place) row (omega arith) (omega (arith, more, count))) in
-      rw there (rw (get_or-drop low rows place row) at under, over);
+      let over_there : start ≤ (get_or (drop low rows) place row).0 = rw (get_or-drop low rows place row) over in
+      rw there (over_there, under);
   all = λ place row lt from under. (at_least place row lt from, at_most place row lt under (at_least place row lt from));
 }
   where

@@ -4,6 +4,7 @@ use Rattle.std.specs.Prelude.{◌↔◌, IsTrue, IfOk, None}
 use Rattle.jv_types.specs.Bodies.{at_offset, arg_targets}
 use Rattle.jv_types.specs.declared.ids.MethodId.{MethodId}
 use Rattle.jv_types.specs.declared.shapes.Shape.{Shape}
+use Rattle.jv_types.specs.declared.instruction.Arg.{Arg}
 use Rattle.jv_types.specs.declared.instruction.Insn.{Insn}
 use Rattle.jv_types.specs.declared.body.Body.{Body}
 use Rattle.jv_types.specs.declared.frames.Frame.{Frame}
@@ -47,10 +48,10 @@ other_half w method body pc insn frame (Err none.Memory) at no_words typed rule 
 -- what has no typing leaves nothing
 pub leaves_nothing : (w : List Shape) (method : MethodId) (body : Body) (maps : List (ℕ × Frame)) (pc : ℕ) (insn : Insn) (here : Option Frame) (frame : Frame) → here ≡ Some frame
     → ((after : Frame) → StepTyping w (site_at method body pc) frame insn after → ⊥) → IsLeft w method body maps pc insn here None
-leaves_nothing w method body maps pc insn here frame is untyped = λ next other after handed at typing.
+leaves_nothing w method body maps pc insn here frame is no_typing = λ next other after handed at typing.
     let both : Some other ≡ Some frame = sym at ∙ is in
     let same : other ≡ frame = cc in
-    untyped after (subst (λ (f : Frame). StepTyping w (site_at method body pc) f insn after) same typing)
+    no_typing after (subst (λ (f : Frame). StepTyping w (site_at method body pc) f insn after) same typing)
 
 -- ---- a table at one instruction
 
@@ -85,11 +86,18 @@ handed_untyped w method body maps rows pc next insn frame exact stands at handed
     none_is_no_some (at_offset next rows) after none (exact.back next after (left pc next insn frame after (exact.forth pc frame stands) at handed.goes handed.after handed.no_map typing))
 
 -- a frame stands at the next instruction, and it fits at the targets of this one
-abbrev pub IsHandedRight : List Shape → List (ℕ × Frame) → ℕ → Insn → Type 0
-IsHandedRight w rows next insn = (after : Frame) × StandsIn rows next after × FitsAtEach w rows (arg_targets insn.arg) after
+abbrev pub IsHandedRight : List Shape → List (ℕ × Frame) → ℕ → Arg → Type 0
+IsHandedRight w rows next arg = (after : Frame) × StandsIn rows next after × FitsAtEach w rows (arg_targets arg) after
+
+pub targets_decide : (w : List Shape) (rows : List (ℕ × Frame)) (next : ℕ) (arg : Arg) (after : Frame) (b : Bool) → at_offset next rows ≡ Some after
+    → IsTrue b ↔ FitsAtEach w rows (arg_targets arg) after → IsTrue b ↔ IsHandedRight w rows next arg
+targets_decide w rows next arg after b stands says = (
+  λ t. (after, stands, says.0 t),
+  λ h. says.1 (subst (FitsAtEach w rows (arg_targets arg)) (given_twice (at_offset next rows) h.0 after h.1 stands) h.2),
+)
 
 pub handed_decides : (w : List Shape) (method : MethodId) (body : Body) (maps rows : List (ℕ × Frame)) (row : ℕ × Insn) (frame : Frame) (next : ℕ) (goes : Bool) → AreForced w method body maps rows
-    → at_offset row.0 rows ≡ Some frame → at_offset row.0 body.insns ≡ Some row.1 → IsHandedOn body maps row.0 row.1.op next → IsTrue goes ↔ IsHandedRight w rows next row.1 → Decides w method body rows row goes
+    → at_offset row.0 rows ≡ Some frame → at_offset row.0 body.insns ≡ Some row.1 → IsHandedOn body maps row.0 row.1.op next → IsTrue goes ↔ IsHandedRight w rows next row.1.arg → Decides w method body rows row goes
 handed_decides w method body maps rows row frame next true exact stands at handed says =
     let h = says.0 refl in
     record {
@@ -97,7 +105,7 @@ handed_decides w method body maps rows row frame next true exact stands at hande
       stands = stands;
       after = h.0;
       typing = handed_typing w method body maps rows row.0 next row.1 frame h.0 exact stands at handed (exact.forth next h.0 h.1);
-      fits = record { falls = λ e. (next, handed.after, h.0, h.1, frame_to_itself w h.0); jumps = h.2 };
+      fits = record { falls = λ e. (next, handed.after, (h.0, h.1, frame_to_itself w h.0)); jumps = h.2 };
     }
 handed_decides w method body maps rows row frame next false exact stands at handed says = by (at_offset next rows) refl
   where

@@ -3,10 +3,10 @@ use Rattle.jv_verify.specs.Steps.Checking.{untyped}
 use Rattle.jv_verify.proofs.Stepping.{typed_decides, handed_decides}
 use Rattle.jv_verify.proofs.checks.is_typed.Goals as goal
 
-pub returns-in-Some : goal.returns-in-Some
-returns-in-Some c =
-    handed_decides c.args.world.now c.args.method c.args.body.now c.args.maps.now c.args.rows.now c.args.row.now c.in-Some.frame.now c.in-Some-2.next c.is_handed_right.result c.requires.forced (sym c.in-Some.ensures.value) c.requires.stands
-    c.in-Some-2.ensures c.is_handed_right.ensures
+pub returns-in-Some-handed_on : goal.returns-in-Some-handed_on
+returns-in-Some-handed_on c =
+    handed_decides c.args.world.now c.args.method c.args.body.now c.args.maps.now c.args.rows.now c.args.row.now c.in-Some.frame.now c.in-Some-handed_on.next c.is_handed_right.result c.requires.forced (sym c.in-Some.ensures.value) c.requires.stands
+    c.in-Some-handed_on.ensures.found c.is_handed_right.ensures
 
 pub returns-in-Ok : goal.returns-in-Ok
 returns-in-Ok c =

@@ -1,8 +1,6 @@
-use Rattle.std.proofs.Common.{◌≡◌, false, true, sym, ◌∙◌, subst}
-use Rattle.std.proofs.lemmas.List.Elements.{All-more}
 use Rattle.jv_class.specs.declared.class_file.Member.{Member}
 use Rattle.jv_verify.specs.Verified.{IsNamedSo}
-use Rattle.jv_verify.proofs.Each.{passed, is_item}
+use Rattle.jv_verify.proofs.Each.{passed}
 use Rattle.jv_verify.proofs.codes.member_named.Goals as goal
 
 pub returns-clause-none : goal.returns-clause-none

@@ -1,8 +1,6 @@
-use Rattle.std.proofs.Common.{sym, subst, List, ℕ}
 use Rattle.jv_types.specs.Bodies.{at_offset}
-use Rattle.jv_types.specs.declared.frames.Frame.{Frame}
 use Rattle.av_conditions.proofs.Standing.{stands_at}
-use Rattle.jv_verify.specs.Steps.Forcing.{forced_here, IsLeft, ForcesOn}
+use Rattle.jv_verify.specs.Steps.Forcing.{forced_here, IsLeft}
 use Rattle.jv_verify.proofs.Forcing.{goes_on, ends}
 use Rattle.jv_verify.proofs.forced.forced_frames.Goals as goal
 

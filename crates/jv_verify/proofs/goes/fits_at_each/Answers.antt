@@ -1,8 +1,8 @@
-use Rattle.std.proofs.Common.{ℕ, refl, subst}
+use Rattle.std.proofs.Common.{ℕ, refl}
 use Rattle.std.proofs.lemmas.List.Elements.{All-more}
 use Rattle.jv_typing.specs.TypeSafe.{FitsThere}
 use Rattle.jv_verify.specs.Steps.Checking.{StandsIn}
-use Rattle.jv_verify.proofs.Each.{passed, is_item}
+use Rattle.jv_verify.proofs.Each.{passed}
 use Rattle.jv_verify.proofs.goes.fits_at_each.Goals as goal
 
 pub loop-target-preserved : goal.loop-target-preserved

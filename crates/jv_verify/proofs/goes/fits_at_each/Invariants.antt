@@ -1,4 +1,4 @@
-use Rattle.std.proofs.Common.{take, All, ℕ}
+use Rattle.std.proofs.Common.{take, All}
 use Rattle.jv_typing.specs.TypeSafe.{FitsThere}
 use Rattle.jv_verify.specs.Steps.Checking.{StandsIn}
 use Rattle.jv_verify.proofs.goes.fits_at_each.Given as goal

@@ -1,4 +1,4 @@
-use Rattle.std.proofs.Common.{ℕ, map, ◌∷◌}
+use Rattle.std.proofs.Common.{map}
 use Rattle.jv_verify.proofs.Targets.{later_decide}
 use Rattle.jv_verify.proofs.goes.fits_at_targets.Goals as goal
 

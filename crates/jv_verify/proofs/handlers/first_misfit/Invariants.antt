@@ -1,4 +1,4 @@
-use Rattle.std.proofs.Common.{take, All, ℕ}
+use Rattle.std.proofs.Common.{take, All}
 use Rattle.std.specs.Option.{option_copied}
 use Rattle.jv_verify.specs.Steps.Checking.{FitsTarget}
 use Rattle.jv_verify.proofs.handlers.first_misfit.Given as goal

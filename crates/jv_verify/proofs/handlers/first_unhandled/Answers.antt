@@ -1,9 +1,8 @@
-use Rattle.std.proofs.Common.{ℕ}
 use Rattle.jv_verify.proofs.Covering.{none_asked, one_more, all_asked}
 use Rattle.jv_verify.proofs.handlers.first_unhandled.Goals as goal
 
-pub loop-handler-begins : goal.loop-handler-begins
-loop-handler-begins c = none_asked c.args.world.now c.args.rows.now c.args.handlers.now
+pub loop-handler-init : goal.loop-handler-init
+loop-handler-init c = none_asked c.args.world.now c.args.rows.now c.args.handlers.now
 
 pub loop-handler-preserved : goal.loop-handler-preserved
 loop-handler-preserved c =

@@ -1,4 +1,4 @@
-use Rattle.std.proofs.Common.{◌≡◌, true, false, sym, ◌∙◌, Option, Some}
+use Rattle.std.proofs.Common.{sym, ◌∙◌}
 use Rattle.jv_verify.proofs.Tables.{unfit_begins}
 use Rattle.jv_verify.proofs.table.begun.Goals as goal
 
