@@ -43,7 +43,7 @@ module _ (w v : List Shape) (numbered : AreNumbered w) (part : IsPart (IsWholeIn
       let in_v = part.all t (among_from_get w there.0 t there.1.1) t_whole in
       absent.nowhere in_v.0 (t, at_place v t in_v, there.1.2)
 
-  to : ℕ → ℕ
+  abbrev to : ℕ → ℕ
   to c = spot v w find c (slice_get v c) refl
 
   sub_to : (c d : ℕ) → Sub v c d → Sub w (to c) (to d)
@@ -83,3 +83,13 @@ module _ (w v : List Shape) (numbered : AreNumbered w) (part : IsPart (IsWholeIn
     only = λ s h. (part.from s h).1;
     all = λ s h. part.all s (among_from_get w h.0 s h.1) h;
   }
+
+-- a cause is not want of memory
+pub missing_no_memory : (why : HierRefusal) (name : List ℕ) → why ≡ Missing name → why ≡ Memory → ⊥
+missing_no_memory why name is other = cc
+
+pub circular_no_memory : (why : HierRefusal) (name : List ℕ) → why ≡ Circular name → why ≡ Memory → ⊥
+circular_no_memory why name is other = cc
+
+pub kind_no_memory : (why : HierRefusal) (name : List ℕ) → why ≡ SuperKind name → why ≡ Memory → ⊥
+kind_no_memory why name is other = cc

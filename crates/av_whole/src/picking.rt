@@ -50,6 +50,8 @@ pub fn whole_world(alloc: Global, shapes: &[Shape]) -> Result<World, AllocError>
     match World::build(alloc, kept) {
         Ok(world) => Ok(world),
         Err(HierRefusal::Memory) => Err(AllocError),
-        Err(_) => unreachable!(),
+        Err(HierRefusal::Missing(_)) => unreachable!(),
+        Err(HierRefusal::Circular(_)) => unreachable!(),
+        Err(HierRefusal::SuperKind(_)) => unreachable!(),
     }
 }
