@@ -1,14 +1,13 @@
 -- The whole classes of a list make a world: none of the causes for which a list is no world holds of them.
-use Rattle.std.proofs.Common.{◌≡◌, ℕ, ◌<◌, ◌⊎◌, inl, inr, List, Some, length, slice_get, Contains, refl, ap, sym, ◌∙◌, subst, arith}
-use Rattle.std.proofs.lemmas.Option.{same_Some}
+use Rattle.std.proofs.Common.{◌≡◌, ℕ, inl, inr, List, Some, slice_get, refl, ap, sym, subst, arith}
 use Rattle.jv_types.specs.declared.shapes.Shape.{Shape}
 use Rattle.jv_resolve.proofs.PlacesLemmas.{among_from_get}
 use Rattle.jv_resolve.proofs.Hierarchy.{one_shape}
 use Rattle.jv_world.specs.declared.refusal.HierRefusal.{HierRefusal}
 use Rattle.jv_world.specs.declared.refusal.HierRefusal.TheVariants.{Missing, Circular, SuperKind, Memory}
 use Rattle.jv_world.specs.Refusals.{HasCause}
-use Rattle.jv_world.specs.Whole.{IsSound, IsWhole}
-use Rattle.jv_world.specs.Worlds.{AreNumbered, HasRightSupers, HasSuper, HasWrongSuper, IsAbsent, IsCircular, IsNamed, IsWorld, NamesSuper, ProperSub, Sub, same, link}
+use Rattle.jv_world.specs.Whole.{IsSound}
+use Rattle.jv_world.specs.Worlds.{AreNumbered, HasRightSupers, HasSuper, HasWrongSuper, IsAbsent, IsCircular, IsWorld, NamesSuper, ProperSub, Sub, same, link}
 use Rattle.av_collected.specs.Parts.{IsPart}
 use Rattle.av_collected.proofs.Lists.{at_place}
 use Rattle.av_collected.proofs.Parts.{Find, spot, spot-is, spot-link, right_in_part}

@@ -2,12 +2,12 @@
 use Rattle.std.proofs.Common.{◌≡◌, ℕ, zero, suc, ◌<◌, ◌⊎◌, inl, inr, List, [], ◌∷◌, Option, None, Some, MatchOption, length, slice_get, Contains, refl, ap, sym, ◌∙◌, subst, arith}
 use Rattle.std.proofs.lemmas.Option.{slice_get_within, same_Some}
 use Rattle.jv_types.specs.declared.shapes.Shape.{Shape}
-use Rattle.jv_resolve.proofs.Hierarchy.{not_below_itself, one_shape, proper_here, sub_here}
+use Rattle.jv_resolve.proofs.Hierarchy.{not_below_itself, proper_here, sub_here}
 use Rattle.jv_resolve.proofs.PlacesLemmas.{among_from_get}
 use Rattle.jv_two_worlds.specs.Agreeing.{Agree}
 use Rattle.jv_two_worlds.specs.Renumbering.{StandsIn}
 use Rattle.jv_two_worlds.specs.SameClasses.{IsSameClass}
-use Rattle.jv_world.specs.Whole.{HasSupersThere, IsSound, IsWhole}
+use Rattle.jv_world.specs.Whole.{IsSound}
 use Rattle.jv_world.specs.Worlds.{object_name, HasRightSupers, HaveDistinctNames, IsFinal, IsInterface, IsNamed, IsWorld, NamesSuper, ProperSub, Sub}
 use Rattle.av_collected.proofs.Lists.{at_place, in_none, same_name}
 use Rattle.av_collected.proofs.Same.{Longer, same_itself}

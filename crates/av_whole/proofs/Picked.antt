@@ -1,12 +1,9 @@
 -- One class more, kept or left out.
-use Rattle.std.proofs.Common.{◌≡◌, ℕ, zero, suc, ◌+◌, ◌<◌, ◌≤◌, ◌⊎◌, inl, inr, Bool, true, false, IsTrue, List, [], ◌∷◌, ◌++◌, Some, length, take, drop, get_or, slice_get, Contains, refl, ap, sym, ◌∙◌, subst, ⊎_elim, arith}
-use Rattle.std.specs.Prelude.{◌↔◌}
+use Rattle.std.proofs.Common.{◌≡◌, ℕ, zero, suc, ◌+◌, ◌<◌, ◌≤◌, Bool, true, false, List, [], ◌∷◌, ◌++◌, Some, length, take, drop, get_or, slice_get, Contains, refl, ap, sym, ◌∙◌, subst, ⊎_elim, arith}
 use Rattle.std.proofs.lemmas.List.{length_push, take_all, take_more, take-append-drop}
 use Rattle.std.proofs.lemmas.List.Elements.{Contains-append_left, Contains-push, Contains-push_cases}
-use Rattle.std.proofs.lemmas.Option.{slice_get-get_or, slice_get_within, same_Some}
+use Rattle.std.proofs.lemmas.Option.{slice_get-get_or, same_Some}
 use Rattle.jv_types.specs.declared.shapes.Shape.{Shape}
-use Rattle.jv_resolve.proofs.PlacesLemmas.{among_from_get}
-use Rattle.jv_resolve.proofs.Hierarchy.{one_shape}
 use Rattle.jv_world.specs.Whole.{AreMarks, IsWhole}
 use Rattle.jv_world.specs.Worlds.{AreNumbered, HaveDistinctNames}
 use Rattle.av_collected.specs.Parts.{IsPart}

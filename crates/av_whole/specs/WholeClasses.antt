@@ -1,8 +1,8 @@
 -- The whole classes of a list of shapes, and the world that they make (JVMS 4.1, 5.3.5).
-use Rattle.std.specs.Prelude.{◌≡◌, ℕ, ◌<◌, ◌≤◌, ◌⊎◌, List, Some, length, slice_get, Contains}
+use Rattle.std.specs.Prelude.{◌≡◌, ℕ, List, Some, slice_get, Contains}
 use Rattle.jv_types.specs.declared.shapes.Shape.{Shape}
 use Rattle.jv_world.specs.Whole.{IsWhole}
-use Rattle.jv_world.specs.Worlds.{HaveDistinctNames, IsWorld}
+use Rattle.jv_world.specs.Worlds.{IsWorld}
 
 -- the shape is that of a whole class of the list
 abbrev pub IsWholeIn : List Shape → Shape → Type 0
