@@ -1,5 +1,5 @@
 -- The first state is sound.
-use Rattle.std.proofs.Common.{◌≡◌, ℕ, ◌<◌, List, [], ◌∷◌, None, length, arith}
+use Rattle.std.proofs.Common.{ℕ, ◌<◌, List, [], ◌∷◌, None, refl, arith}
 use Rattle.std.specs.List.{All}
 use Rattle.std.proofs.lemmas.List.Elements.{All-cons}
 use Rattle.jv_types.specs.declared.frames.FramedBody.{FramedBody}
@@ -24,7 +24,7 @@ first_sound w methods main dims start some =
       main = start;
       dims = some;
       heap = λ k d lt. absurd (omega arith);
-      statics_rise = tt;
+      statics_rise = refl;
       statics = λ k d lt. absurd (omega arith);
       known = record { rise = λ k lt. absurd (omega arith); made = λ k d lt. absurd (omega arith) };
       fresh = record { rise = λ k lt. absurd (omega arith); made = λ k d lt. absurd (omega arith) };

@@ -1,25 +1,32 @@
 -- Frames stay of the right kinds: as an instruction goes on in its method, as a method is entered, and as an object is caught.
-use Rattle.std.proofs.Common.{◌≡◌, ℕ, zero, suc, ◌+◌, ◌-◌, ◌<◌, ◌≤◌, ◌⊎◌, Bool, true, false, cond, IsTrue, List, [], ◌∷◌, ◌++◌, Option, None, Some, map, length, max, take, drop, replicate, refl, sym, ap, subst, ◌∙◌, inl, inr, ⊎_elim, arith}
-use Rattle.std.specs.Prelude.{nat_le, slice_get, slice_index_or, unwrap_or, Contains}
-use Rattle.std.specs.List.{flat_map, list_all}
-use Rattle.std.specs.Option.{option_map, option_map_or}
+use Rattle.std.proofs.Common.{◌≡◌, ℕ, zero, suc, ◌-◌, ◌≤◌, Bool, true, false, List, [], ◌∷◌, ◌++◌, Some, map, length, replicate, refl, sym, ap, subst, ◌∙◌, inl, inr, ⊎_elim, arith}
+use Rattle.std.specs.Prelude.{◌==◌, if◌then◌else◌, slice_get, Contains}
+use Rattle.std.specs.List.{flat_map}
 use Rattle.std.proofs.lemmas.List.{length-append, map-append}
-use Rattle.std.proofs.lemmas.Option.{none-some, slice_get_within, same_Some}
-use Rattle.jv_types.specs.Bodies.{IsNextStart, at_offset}
+use Rattle.std.proofs.lemmas.Option.{none-some, same_Some}
+use Rattle.std.proofs.lemmas.Grind.{flat_map-append}
+use Rattle.jv_table.specs.declared.code_tables.Cell.{Cell}
+use Rattle.jv_table.specs.declared.code_tables.Cell.TheVariants.{Ref}
+use Rattle.jv_table.specs.declared.ops.TheConstants.{INVOKESTATIC}
+use Rattle.jv_types.specs.Bodies.{at_offset}
 use Rattle.jv_types.specs.declared.body.Handler.{Handler}
-use Rattle.jv_types.specs.declared.frames.Frame.{Frame}
 use Rattle.jv_types.specs.declared.frames.FramedBody.{FramedBody}
+use Rattle.jv_types.specs.declared.desc.MethodDesc.{MethodDesc}
+use Rattle.jv_types.specs.declared.instruction.Arg.TheVariants.{Method}
+use Rattle.jv_types.specs.declared.instruction.Insn.{Insn}
+use Rattle.jv_types.specs.declared.references.MethodRef.{MethodRef}
 use Rattle.jv_types.specs.declared.shapes.MethodShape.{MethodShape}
 use Rattle.jv_types.specs.declared.shapes.Shape.{Shape}
-use Rattle.jv_insn.specs.KindSafe.{Covers, FitsAt, IsKindSafe, entry_words, method_of}
-use Rattle.jv_insn.specs.Kinds.{SaysNoMore, SaysOnly, WordKind, Word, Reference, Unknown, kinds_of}
+use Rattle.jv_insn.specs.Effects.{cells_taken, desc_cell, effect_of}
+use Rattle.jv_insn.specs.KindSafe.{Covers, IsKindSafe, entry_words, is_static, method_of}
+use Rattle.jv_insn.specs.Kinds.{SaysOnly, WordKind, Reference, cell_words, kinds_of}
 use Rattle.jv_insn.proofs.KindSafe.{fits_start}
 use Rattle.jv_insn.proofs.OneEach.{value_of}
 use Rattle.av_states.specs.declared.held.Held.{Held}
 use Rattle.av_states.specs.declared.held.Held.TheVariants as held
 use Rattle.av_model.specs.NeverWanting.{HasKinds, entry_spot, handler_spot, kinds_held}
-use Rattle.av_model.specs.Operands.{kind_of_held}
-use Rattle.av_model.specs.Spots.{Spot, IsInsnAt, entry_locals, local_count, widest_frame}
+use Rattle.av_model.specs.Operands.{HoldCells, kind_of_held}
+use Rattle.av_model.specs.Spots.{Spot, entry_locals, local_count, widest_frame}
 
 -- what is said of words is said of more words
 said_more : (said words more : List WordKind) → SaysOnly said words → SaysOnly said (words ++ more)
@@ -78,3 +85,23 @@ caught_kinds w spot handler thrown safe kinds among covers =
       };
       wide = kinds.wide;
     }
+
+-- A method that a call of this reference enters, with the words that the call takes
+pub called_kinds : (w : List Shape) (framed : FramedBody) (shape : MethodShape) (insn : Insn) (r : MethodRef) (taken : List Held) → IsKindSafe w framed
+    → method_of w framed.method ≡ Some shape → insn.arg ≡ Method r → shape.desc ≡ r.desc → is_static shape ≡ (insn.op == INVOKESTATIC)
+    → HoldCells (effect_of insn).takes taken → HasKinds (entry_spot framed taken)
+called_kinds w framed shape insn r taken safe declared names desc static holds =
+    let receiver : Bool → List Cell = λ none. if none then [] else Ref ∷ [] in
+    let first : Bool → List WordKind = λ none. if none then [] else Reference ∷ [] in
+    let params = map desc_cell r.desc.params in
+    let cells_are : (effect_of insn).takes ≡ receiver (insn.op == INVOKESTATIC) ++ params = ap (cells_taken insn.op) names in
+    let entry_is : (entry_words shape).locals ≡ first (insn.op == INVOKESTATIC) ++ flat_map cell_words params =
+        ap (λ (none : Bool). first none ++ flat_map cell_words (map desc_cell shape.desc.params)) static
+        ∙ ap (λ (d : MethodDesc). first (insn.op == INVOKESTATIC) ++ flat_map cell_words (map desc_cell d.params)) desc in
+    entered_kinds w framed shape taken safe declared
+    (holds ∙ ap (flat_map cell_words) cells_are ∙ flat_map-append cell_words (receiver (insn.op == INVOKESTATIC)) params
+    ∙ ap (λ (ks : List WordKind). ks ++ flat_map cell_words params) (of_receiver (insn.op == INVOKESTATIC)) ∙ sym entry_is)
+  where
+    of_receiver : (none : Bool) → flat_map cell_words (if none then [] else Ref ∷ []) ≡ (if none then [] else Reference ∷ [])
+    of_receiver true = refl
+    of_receiver false = refl

@@ -1,6 +1,7 @@
 -- The first state, and which states are sound: what they name is there, and their lists are in order.
-use Rattle.std.specs.Prelude.{◌≡◌, ℕ, ◌<◌, Bool, true, false, All, List, [], ◌∷◌, Option, Some, None, length, map, slice_get, Contains}
-use Rattle.std.specs.List.Sorted.{IsStrictlyIncreasing, IsStrictlySortedBy}
+use Rattle.std.specs.Prelude.{ℕ, ◌<◌, false, IsTrue, All, List, [], ◌∷◌, Option, Some, None, length, map}
+use Rattle.std.specs.List.Sorted.{IsStrictlyIncreasing}
+use Rattle.jv_table.specs.Rows.{rises}
 use Rattle.jv_types.specs.declared.frames.FramedBody.{FramedBody}
 use Rattle.jv_types.specs.declared.ids.ClassId.{ClassId}
 use Rattle.jv_types.specs.declared.ids.FieldId.{FieldId}
@@ -60,7 +61,7 @@ abbrev mutual
 
 pub record IsSoundObject (w : List Shape) (state : State) (object : HeapObject) : Type 0 where
   pub type : IsSoundType w object.made
-  pub rise : IsStrictlySortedBy cell_cmp (map (λ (row : CellKey × Held). row.0) object.cells)
+  pub rise : IsTrue (rises cell_cmp object.cells)
   pub cells : All (λ (row : CellKey × Held). IsSoundHeld state row.1) object.cells
 
 -- the words of a frame are sound, and its method is one of the world
@@ -89,7 +90,7 @@ pub record IsSoundState (w : List Shape) (methods : List FramedBody) (state : St
   pub main : IsStart w methods state.main
   pub dims : 0 < state.dims
   pub heap : All (IsSoundObject w state) state.heap
-  pub statics_rise : IsStrictlySortedBy field_cmp (map (λ (row : FieldId × Held). row.0) state.statics)
+  pub statics_rise : IsTrue (rises field_cmp state.statics)
   pub statics : All (λ (row : FieldId × Held). IsSoundHeld state row.1) state.statics
   pub known : AreSoundNumbers state state.known
   pub fresh : AreSoundNumbers state state.fresh

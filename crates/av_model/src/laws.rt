@@ -1,14 +1,17 @@
 //! Laws of the machine. Each function does nothing, and its contract is the law.
 
-ghost use Rattle.std.specs.Prelude.{◌≡◌, ℕ, IsTrue, List, [], None, Some, map, Contains};
+ghost use Rattle.std.specs.Prelude.{◌≡◌, ◌==◌, ℕ, IsTrue, List, [], None, Some, map, Contains};
 ghost use Rattle.jv_types.specs.declared.body.Handler.{Handler};
 ghost use Rattle.jv_types.specs.declared.frames.FramedBody.{FramedBody};
 ghost use Rattle.jv_types.specs.declared.ids.ClassId.{ClassId};
+ghost use Rattle.jv_table.specs.declared.ops.TheConstants.{INVOKESTATIC};
+ghost use Rattle.jv_types.specs.declared.instruction.Arg.TheVariants.{Method};
 ghost use Rattle.jv_types.specs.declared.instruction.Insn.{Insn};
+ghost use Rattle.jv_types.specs.declared.references.MethodRef.{MethodRef};
 ghost use Rattle.jv_types.specs.declared.shapes.MethodShape.{MethodShape};
 ghost use Rattle.jv_types.specs.declared.shapes.Shape.{Shape};
 ghost use Rattle.jv_insn.specs.Effects.{effect_of};
-ghost use Rattle.jv_insn.specs.KindSafe.{Covers, IsKindSafe, entry_words, method_of};
+ghost use Rattle.jv_insn.specs.KindSafe.{Covers, IsKindSafe, entry_words, is_static, method_of};
 ghost use Rattle.av_states.specs.declared.held.Held.{Held};
 ghost use Rattle.av_states.specs.declared.event.Choice.{Choice};
 ghost use Rattle.av_states.specs.declared.event.Choice.TheVariants.{Go, Raise};
@@ -53,12 +56,16 @@ pub fn instructions_are_not_wanting()
 {}
 
 /// Frames stay of the right kinds: as an instruction goes on in its method and gives words of the kinds of its cells, as a
-/// kind safe method is entered on words of the kinds of its receiver and parameters, and as an object is caught.
+/// kind safe method is entered on words of the kinds of its receiver and parameters, or on those that a call of its
+/// descriptor takes, and as an object is caught.
 pub fn frames_keep_their_kinds()
     ensures goes_on { (w : List Shape) (spot : Spot) (insn : Insn) (given : List Held) (branch to : ℕ) → IsKindSafe w spot.framed → HasKinds spot
         → IsInsnAt spot insn → HoldCells (effect_of insn).gives given → GoesTo spot insn branch to → HasKinds (spot_after spot insn given to) }
     ensures entered { (w : List Shape) (framed : FramedBody) (shape : MethodShape) (words : List Held) → IsKindSafe w framed
         → method_of w framed.method ≡ Some shape → map kind_of_held words ≡ (entry_words shape).locals → HasKinds (entry_spot framed words) }
+    ensures called { (w : List Shape) (framed : FramedBody) (shape : MethodShape) (insn : Insn) (r : MethodRef) (taken : List Held) → IsKindSafe w framed
+        → method_of w framed.method ≡ Some shape → insn.arg ≡ Method r → shape.desc ≡ r.desc → is_static shape ≡ (insn.op == INVOKESTATIC)
+        → HoldCells (effect_of insn).takes taken → HasKinds (entry_spot framed taken) }
     ensures caught { (w : List Shape) (spot : Spot) (handler : Handler) (thrown : ℕ) → IsKindSafe w spot.framed → HasKinds spot
         → Contains spot.framed.body.handlers handler → Covers handler spot.pc → HasKinds (handler_spot spot handler thrown) }
 {}
