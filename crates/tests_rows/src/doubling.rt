@@ -2,7 +2,7 @@ ghost use Rattle.std.specs.Prelude.{◌≡◌, ◌+◌, ◌<◌, ◌↔◌, ℕ,
 ghost use Rattle.jv_rows.specs.Bits.{HasBit};
 ghost use Rattle.tests_rows.specs.Rules.{doubles, below, doubles_bounded};
 
-use crate::closed::closed;
+use crate::closing::closed;
 use jv_fix::CloseStop;
 use jv_rows::{Chunk, RowForcing, Rows, has_bit};
 use std::alloc::AllocError;

@@ -2,8 +2,8 @@
 #![tactic(auto)]
 
 #[cfg(test)]
+mod closing;
+#[cfg(test)]
 mod doubling;
 #[cfg(test)]
 mod meeting;
-#[cfg(test)]
-mod closed;

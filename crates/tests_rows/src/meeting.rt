@@ -1,14 +1,14 @@
 ghost use Rattle.std.specs.Prelude.{[]};
 ghost use Rattle.tests_rows.specs.Rules.{meets, meets_bounded};
 
-use crate::closed::closed;
+use crate::closing::closed;
 use jv_rows::{Chunk, RowForcing, Rows};
 use std::alloc::AllocError;
 use std::marker::Brand;
 use std::sync::ledger::Blank;
 use std::test::Fail;
 
-/// What stands in row 0 and in row 1 stands in row 2, and what stands in a row from 2 to 8 stands in the next.
+/// What stands in row 0 and in row 1 stands in row 2.
 struct Meeting;
 
 impl RowForcing for Meeting {
@@ -29,11 +29,6 @@ impl RowForcing for Meeting {
                 number,
                 bits: new.bits & found.bits(0, number),
             })?,
-            row @ 2..9 => out.push(Chunk {
-                row: row + 1,
-                number,
-                bits: new.bits,
-            })?,
             _ => {}
         }
         Ok(())
@@ -44,21 +39,27 @@ impl RowForcing for Meeting {
 
 #[test]
 fn meets_whichever_comes_last(rt: HostRuntime) -> Result<(), Fail> {
-    let seeds = [(1, 700), (0, 700), (0, 3), (1, 64), (0, 64), (1, u64::MAX), (0, u64::MAX)];
+    let end = u64::MAX;
+    let seeds = [
+        (1, 700),
+        (0, 700),
+        (0, 3),
+        (1, 64),
+        (0, 64),
+        (1, end),
+        (0, end),
+    ];
     let found = closed::<Meeting, Brand>(rt.alloc(), Blank::new(1), &Meeting, &seeds, 100)?;
-    assert_eq!(rt; found.len(), 31);
-    assert!(rt; found.has(0, 3));
-    assert!(rt; !found.has(2, 3));
-    assert!(rt; found.has(9, 64));
-    assert!(rt; found.has(9, u64::MAX));
-    assert!(rt; !found.has(10, 64));
-    assert_eq!(rt; found.bits(9, 1), 1);
-    assert_eq!(rt; found.bits(9, 2), 0);
-    assert_eq!(rt; found.chunks(9).len(), 3);
-    assert_eq!(rt; found.next_column(9, Some(700)), Some(u64::MAX));
-    assert_eq!(rt; found.next_column(9, Some(u64::MAX)), None);
-    assert_eq!(rt; found.next(Some((8, u64::MAX))), Some((9, 64)));
-    assert_eq!(rt; found.next(Some((9, u64::MAX))), None);
+    assert_eq!(rt; found.len(), 10);
+    assert!(rt; found.has(0, 3) && !found.has(2, 3));
+    assert!(rt; found.has(2, 64) && found.has(2, end) && !found.has(3, 64));
+    assert_eq!(rt; found.bits(2, 1), 1);
+    assert_eq!(rt; found.bits(2, 2), 0);
+    assert_eq!(rt; found.chunks(2).len(), 3);
+    assert_eq!(rt; found.next_column(2, Some(700)), Some(end));
+    assert_eq!(rt; found.next_column(2, Some(end)), None);
+    assert_eq!(rt; found.next(Some((1, end))), Some((2, 64)));
+    assert_eq!(rt; found.next(Some((2, end))), None);
     Ok(())
 }
 
