@@ -17,8 +17,7 @@ AreDoubles bits end doubled = (k : ℕ) → HasBit doubled k ↔ ((place : ℕ) 
 module _ (bits doubled place : ℕ) (so_far : AreDoubles bits place doubled) where
   pub one_more : place < 10 → HasBit bits place → AreDoubles bits (place + 1) (bit_or doubled (1 * 2 ^ (place + place) % 2 ^ 64))
   one_more below has k =
-      let set = set_iff doubled (place + place) k (omega arith) in
-      (
+      let set = set_iff doubled (place + place) k (omega arith) in (
         λ h. elim (set.0 h) [
           | inl before ↦ let (other, lower, has_other, is) = (so_far k).0 before in (other, omega (arith, lower), has_other, is)
           | inr same ↦ (place, omega arith, has, same)

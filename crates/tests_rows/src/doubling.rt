@@ -64,7 +64,13 @@ fn doubles_below_twenty(rt: HostRuntime) -> Result<(), Fail> {
 #[test]
 fn refuses_a_set_of_more_than_the_most(rt: HostRuntime) -> Result<(), Fail> {
     for most in [0, 4] {
-        let refused = closed::<Doubling, Brand>(rt.alloc(), Blank::new(1), &Doubling, &[(0, 1)], most);
+        let refused = closed::<Doubling, Brand>(
+            rt.alloc(),
+            Blank::new(1),
+            &Doubling,
+            &[(0, 1)],
+            most,
+        );
         assert_eq!(rt; refused.err(), Some(CloseStop::TooMany));
     }
     let found = closed::<Doubling, Brand>(rt.alloc(), Blank::new(1), &Doubling, &[(0, 1)], 5)?;
