@@ -1,5 +1,5 @@
 -- What the library may do first.
-use Rattle.std.proofs.Common.{◌≡◌, ℕ, ◌+◌, ◌<◌, ◌≤◌, List, [], ◌∷◌, ◌++◌, None, Some, length, refl, inl, inr, sym, ap, ◌∙◌, subst, arith, true}
+use Rattle.std.proofs.Common.{◌≡◌, ℕ, ◌+◌, ◌<◌, List, [], ◌∷◌, None, Some, length, refl, inl, inr, sym, ap, ◌∙◌, subst, arith, true}
 use Rattle.std.specs.Prelude.{slice_get}
 use Rattle.jv_types.specs.declared.frames.FramedBody.{FramedBody}
 use Rattle.jv_types.specs.declared.ids.ClassId.{ClassId}
