@@ -1,5 +1,5 @@
 -- What the library may do first.
-use Rattle.std.proofs.Common.{◌≡◌, ℕ, ◌+◌, ◌<◌, ◌≤◌, List, [], ◌∷◌, ◌++◌, None, Some, length, refl, inl, inr, sym, ap, ◌∙◌, subst, arith, true}
+use Rattle.std.proofs.Common.{◌≡◌, ℕ, ◌+◌, ◌<◌, List, [], ◌∷◌, None, Some, length, refl, inl, inr, sym, ap, ◌∙◌, subst, arith, true}
 use Rattle.std.specs.Prelude.{slice_get}
 use Rattle.jv_types.specs.declared.frames.FramedBody.{FramedBody}
 use Rattle.jv_types.specs.declared.ids.ClassId.{ClassId}
@@ -45,11 +45,14 @@ string_class w core =
     let shape = found.0 in
     let among = found.1 in
     let at : slice_get w among.0 ≡ Some shape = read_at w among.0 shape among.1 (sym among.2) in
-    let class : IsInterface shape → ⊥ = found.4.class (subst (λ (name : List ℕ). IsCoreClass name) (sym found.2) (inr (inr (inl refl)))) in
-    (record { number = among.0 }, (shape, at, found.2), λ interface.
-        let same : Some interface.0 ≡ Some shape = sym interface.1 ∙ at in
-        let is : interface.0 ≡ shape = cc in
-        class (subst IsInterface is interface.2))
+    let class : IsInterface shape → ⊥ = found.4.class (subst (λ (name : List ℕ). IsCoreClass name) (sym found.2) (inr (inr (inl refl)))) in (
+      record { number = among.0 },
+      (shape, at, found.2),
+      λ interface.
+          let same : Some interface.0 ≡ Some shape = sym interface.1 ∙ at in
+          let is : interface.0 ≡ shape = cc in
+          class (subst IsInterface is interface.2),
+    )
 
 -- an array of a class that is no interface has the label of the class, with one dimension
 array_label : (w : List Shape) (most : ℕ) (c : ClassId) → 0 < most → (IsInterfaceClass w c.number → ⊥) → LabelOf w most (Array (Class c)) (labels.Lib (bases.Class c) 1)

@@ -1,5 +1,5 @@
 -- Objects stay, and keep their types and labels: by each move of the library, and over runs.
-use Rattle.std.proofs.Common.{◌≡◌, ℕ, List, [], ◌∷◌, ◌++◌, None, refl, ap, ⊎_elim}
+use Rattle.std.proofs.Common.{ℕ, List, [], ◌∷◌, ◌++◌, None, refl, ap, ⊎_elim}
 use Rattle.jv_types.specs.declared.frames.FramedBody.{FramedBody}
 use Rattle.jv_types.specs.declared.shapes.Shape.{Shape}
 use Rattle.av_states.specs.declared.event.Choice.{Choice}
@@ -14,7 +14,6 @@ use Rattle.av_model.specs.Holding.{field_of, item_of, make_known, static_of, wri
 use Rattle.av_model.specs.Keeping.{KeepsObjects}
 use Rattle.av_model.proofs.Staying.{keeps_heap, keeps_make, keeps_then, keeps_write, step_keeps}
 use Rattle.av_assume.specs.LibraryMoves.{EntersAtStart, enters_first, enters_main, MakesObject, makes_own, makes_copy, UsesLibraryField, sees_static, sees_field, sets_static, sets_field, UsesKnownArray, looks_at, puts, Leaves, calls_method, returns_value, throws_known, LibraryMove, begins, starts, makes, uses_field, uses_array, leaves}
-use Rattle.av_assume.specs.Assumption.{IsKnown, IsKnownArray}
 use Rattle.av_assume.specs.Runs.{Happens, Leads}
 
 module _ (w : List Shape) (methods : List FramedBody) where

@@ -1,6 +1,5 @@
 -- One move of the library: of a thread whose last frame is the library's, or the beginning of a thread.
-use Rattle.std.specs.Prelude.{◌≡◌, ℕ, suc, ◌+◌, Bool, true, false, List, [], ◌∷◌, ◌++◌, Option, None, Some, Contains, length, slice_get, unwrap_or}
-use Rattle.std.specs.List.{flat_map}
+use Rattle.std.specs.Prelude.{◌≡◌, ℕ, suc, ◌+◌, true, false, List, [], ◌∷◌, ◌++◌, Option, None, Some, Contains, length, slice_get}
 use Rattle.std.specs.Option.{option_map_or}
 use Rattle.jv_types.specs.declared.desc.Desc.{Desc}
 use Rattle.jv_types.specs.declared.desc.RefType.{RefType}
@@ -30,13 +29,13 @@ use Rattle.av_states.specs.declared.state.HeapObject.{HeapObject}
 use Rattle.av_states.specs.declared.state.State.{State}
 use Rattle.av_model.specs.AppSteps.{Outcome, quiet}
 use Rattle.av_model.specs.Events.{MethodCall, FromLibrary, IntoMethod}
-use Rattle.av_model.specs.Holding.{cell_at, field_of, item_of, make, make_known, static_of, unwritten, write_object, write_static}
+use Rattle.av_model.specs.Holding.{cell_at, field_of, item_of, make, make_known, static_of, write_object, write_static}
 use Rattle.av_model.specs.LibraryTypes.{IsLibraryType, LabelOf}
 use Rattle.av_model.specs.Operands.{words_of}
 use Rattle.av_model.specs.Raising.{add_known}
 use Rattle.av_model.specs.Returning.{IsApplicationFrame, Resumes}
-use Rattle.av_model.specs.RunTypes.{IsOfClass, IsThrowable, IsReferenceArray, dims_of}
-use Rattle.av_model.specs.Spots.{Spot, IsAt, IsInsnAt, entered, set_thread}
+use Rattle.av_model.specs.RunTypes.{IsOfClass, IsThrowable, dims_of}
+use Rattle.av_model.specs.Spots.{entered, set_thread}
 use Rattle.av_assume.specs.Assumption.{AreHandedOver, CallsApplication, FitsKnown, IsHandedOver, IsKnown, IsKnownArray, IsLibraryField}
 
 -- ---- the start

@@ -1,6 +1,6 @@
 //! Laws of the library's moves and of runs. Each function does nothing, and its contract is the law.
 
-ghost use Rattle.std.specs.Prelude.{◌≡◌, ◌<◌, ℕ, List, [], ◌∷◌, length};
+ghost use Rattle.std.specs.Prelude.{◌<◌, ℕ, List, [], length};
 ghost use Rattle.jv_types.specs.declared.frames.FramedBody.{FramedBody};
 ghost use Rattle.jv_types.specs.declared.ids.MethodId.{MethodId};
 ghost use Rattle.jv_types.specs.declared.shapes.Shape.{Shape};

@@ -7,7 +7,6 @@ use Rattle.jv_types.specs.declared.ids.MethodId.{MethodId}
 use Rattle.jv_types.specs.declared.shapes.Shape.{Shape}
 use Rattle.av_conditions.specs.Conditions.{IsStart}
 use Rattle.av_states.specs.declared.state.Activation.TheVariants.{Library}
-use Rattle.av_states.specs.declared.state.State.{State}
 use Rattle.av_states.specs.declared.state.ThreadState.{ThreadState}
 use Rattle.av_model.specs.States.{IsSoundFrame, IsSoundState, IsSoundThread, first_state}
 

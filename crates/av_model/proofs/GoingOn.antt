@@ -1,6 +1,6 @@
 -- An instruction that goes on in its method leaves words of the kinds that the method's frame there says.
-use Rattle.std.proofs.Common.{◌≡◌, ℕ, zero, suc, ◌+◌, ◌-◌, ◌<◌, ◌≤◌, ◌⊎◌, Bool, true, false, cond, not, eqb, ltb, ◌&&◌, ◌||◌, List, [], ◌∷◌, ◌++◌, Option, None, Some, map, length, max, take, drop, refl, sym, ap, subst, ◌∙◌, inl, inr, ⊎_elim, arith}
-use Rattle.std.specs.Prelude.{is_none, nat_le, slice_get, slice_index_or, unwrap_or}
+use Rattle.std.proofs.Common.{◌≡◌, ℕ, zero, suc, ◌+◌, ◌-◌, ◌<◌, ◌≤◌, ◌⊎◌, Bool, true, false, cond, not, eqb, ltb, ◌&&◌, ◌||◌, List, [], ◌∷◌, ◌++◌, Option, None, Some, map, length, max, refl, sym, ap, subst, ◌∙◌, inl, inr, ⊎_elim, arith}
+use Rattle.std.specs.Prelude.{slice_get, slice_index_or, unwrap_or}
 use Rattle.std.specs.List.{All, flat_map, list_all}
 use Rattle.std.specs.Option.{option_map, option_map_or}
 use Rattle.std.proofs.lemmas.Bool.{and_parts, ltb-true}
@@ -12,15 +12,14 @@ use Rattle.jv_table.specs.declared.code_tables.Cell.{Cell}
 use Rattle.jv_table.specs.declared.code_tables.Cell.TheVariants as cells
 use Rattle.jv_table.specs.declared.ops.TheConstants.{IINC}
 use Rattle.jv_types.specs.declared.frames.Frame.{Frame}
-use Rattle.jv_types.specs.declared.frames.VType.{VType}
 use Rattle.jv_types.specs.declared.instruction.Arg.{Arg}
 use Rattle.jv_types.specs.declared.instruction.Insn.{Insn}
 use Rattle.jv_types.specs.Bodies.{at_offset}
-use Rattle.jv_insn.specs.Effects.{Shuffle, cells_given, decides_cells, effect_of, is_load, is_store, local_of, locals_read, op_row, result_cells, shuffle_of, width_of}
+use Rattle.jv_insn.specs.Effects.{Shuffle, cells_given, decides_cells, effect_of, is_load, is_store, local_of, locals_read, op_row, shuffle_of, width_of}
 use Rattle.jv_insn.specs.Forms.{HasOperands, HasOwnOperands, HasRowOperands}
-use Rattle.jv_insn.specs.KindSafe.{FitsAt, IsKindSafe, IsKindSafeAt, LocalHolds}
-use Rattle.jv_insn.specs.Kinds.{SaysNoMore, SaysOnly, WordKind, Word, Unknown, cell_words, kind_given, kinds_after, kinds_left, kinds_of}
-use Rattle.jv_insn.specs.Leaving.{Place, AtLocal, AtStack, Words, Leaves, StandsAfter, depth_after, is_written, source_of, source_of_top, word_after, word_at, words_after, words_below, words_given}
+use Rattle.jv_insn.specs.KindSafe.{FitsAt, IsKindSafe, LocalHolds}
+use Rattle.jv_insn.specs.Kinds.{SaysOnly, WordKind, Unknown, cell_words, kind_given, kinds_left, kinds_of}
+use Rattle.jv_insn.specs.Leaving.{Place, AtLocal, AtStack, Words, depth_after, is_written, source_of, source_of_top, word_after, word_at, words_below, words_given}
 use Rattle.jv_types.specs.declared.shapes.Shape.{Shape}
 use Rattle.jv_insn.proofs.Leaving.{stands_after, word_given, word_left}
 use Rattle.jv_insn.proofs.Tables.{row_cells_given, row_passes}
@@ -245,14 +244,14 @@ load_said insn frame above own reads load lt none =
     let local = local_of insn.op insn.arg in
     let K = flat_map cell_words (cell ∷ []) in
     let reads_are : locals_read insn.op insn.arg ≡ (local, cell) ∷ [] =
-        ap (λ (b : Bool). cond b (map (λ (c : Cell). (local, c)) (cells_given insn.op insn.arg)) (cond (eqb insn.op IINC) ((local, cells.Int) ∷ []) [])) load
-        ∙ ap (map (λ (c : Cell). (local, c))) one.1 in
+    ap (λ (b : Bool). cond b (map (λ (c : Cell). (local, c)) (cells_given insn.op insn.arg)) (cond (eqb insn.op IINC) ((local, cells.Int) ∷ []) [])) load
+    ∙ ap (map (λ (c : Cell). (local, c))) one.1 in
     let P : List (ℕ × Cell) → Type 0 = λ rs. All (LocalHolds frame) rs in
     let all = subst P reads_are reads in
     let holds : LocalHolds frame (local, cell) = all 0 (local, cell) (omega arith) in
     let found = local_kinds cell local false frame.locals holds in
     let counted : length (kinds_of frame).locals ≡ (length found.0 + length K) + length found.1 =
-        ap length found.3 ∙ length-append (found.0 ++ K) found.1 ∙ ap (λ (n : ℕ). n + length found.1) (length-append found.0 K) in
+    ap length found.3 ∙ length-append (found.0 ++ K) found.1 ∙ ap (λ (n : ℕ). n + length found.1) (length-append found.0 K) in
     let within : above < length K = subst (λ (n : ℕ). above < n) (ap width_of one.1 ∙ width_is cell) lt in
     is_there (kinds_of frame).locals (local + above) (omega (arith, counted, found.2)) none
 
@@ -273,11 +272,11 @@ stack_before insn frame depth place from own reads e none = by (ltb place (words
             → cond (a && b) (Some (AtLocal (local_of insn.op insn.arg + (place - words_below insn depth)))) None ≡ Some from → IsOfStack from
         by_load true true a b e =
             let is : AtLocal (local_of insn.op insn.arg + (place - words_below insn depth)) ≡ from =
-                same_Some (AtLocal (local_of insn.op insn.arg + (place - words_below insn depth))) from e in
+            same_Some (AtLocal (local_of insn.op insn.arg + (place - words_below insn depth))) from e in
             let width : words_given insn ≡ width_of (cells_given insn.op insn.arg) =
-                ap (λ (o : Option Shuffle). option_map_or (λ (shuffle : Shuffle). length shuffle.order) o (width_of (cells_given insn.op insn.arg))) m in
+            ap (λ (o : Option Shuffle). option_map_or (λ (shuffle : Shuffle). length shuffle.order) o (width_of (cells_given insn.op insn.arg))) m in
             let lt : place - words_below insn depth < width_of (cells_given insn.op insn.arg) =
-                subst (λ (n : ℕ). place - words_below insn depth < n) width (ltb-true (place - words_below insn depth) (words_given insn) b) in
+            subst (λ (n : ℕ). place - words_below insn depth < n) width (ltb-true (place - words_below insn depth) (words_given insn) b) in
             absurd (load_said insn frame (place - words_below insn depth) own reads a lt (ap (word_at (kinds_of frame)) is ∙ none))
         by_load true false a b e = absurd (none-some from e)
         by_load false c a b e = absurd (none-some from e)
@@ -330,11 +329,11 @@ goes_on_kinds w spot insn given branch to safe kinds is gives goes =
     let counted : length said.locals ≡ length frame.locals = kinds_count false frame.locals in
     let wide : length said.locals ≤ length words.locals = omega (arith, counted, widest_has spot.framed.frames spot.pc frame at.stands, kinds.wide) in
     let locals = left_locals insn said words given depth gives at.fits.locals at.fits.stack wide
-        (λ local from lt e none. local_before insn said (length words.stack) local from lt e none) in
+    (λ local from lt e none. local_before insn said (length words.stack) local from lt e none) in
     let stack = left_stack insn said words given depth gives at.fits.locals at.fits.stack
-        (λ place from e none. stack_before insn frame (length words.stack) place from here.operands here.reads e none) in
+    (λ place from e none. stack_before insn frame (length words.stack) place from here.operands here.reads e none) in
     let kept : length (leave insn given words).locals ≡ length words.locals =
-        length-map-range_with_len (λ (local : ℕ). word_after insn (held_given insn words given) words (AtLocal local)) 0 (length words.locals) in
+    length-map-range_with_len (λ (local : ℕ). word_after insn (held_given insn words given) words (AtLocal local)) 0 (length words.locals) in
     record {
       fits = record {
         frame = there.frame;

@@ -63,7 +63,7 @@ entered_kinds w framed shape words safe declared kinds =
     let P : List WordKind → Type 0 = λ locals. SaysOnly said locals in
     let words_are : (entry_words safe.shape).locals ≡ map kind_of_held words = ap (λ (s : MethodShape). (entry_words s).locals) one ∙ sym kinds in
     let only : SaysOnly said (map kind_of_held (entry_locals framed words)) =
-        subst P (sym (map-append kind_of_held words filler)) (said_more said (map kind_of_held words) (map kind_of_held filler) (subst P words_are entry.fits.locals)) in
+    subst P (sym (map-append kind_of_held words filler)) (said_more said (map kind_of_held words) (map kind_of_held filler) (subst P words_are entry.fits.locals)) in
     record {
       fits = record { frame = entry.frame; stands = entry.stands; fits = record { locals = only; stack = entry.fits.stack; depth = entry.fits.depth } };
       wide = enough (widest_frame framed.frames) framed words (omega arith);
@@ -96,8 +96,8 @@ called_kinds w framed shape insn r taken safe declared names desc static holds =
     let params = map desc_cell r.desc.params in
     let cells_are : (effect_of insn).takes ≡ receiver (insn.op == INVOKESTATIC) ++ params = ap (cells_taken insn.op) names in
     let entry_is : (entry_words shape).locals ≡ first (insn.op == INVOKESTATIC) ++ flat_map cell_words params =
-        ap (λ (none : Bool). first none ++ flat_map cell_words (map desc_cell shape.desc.params)) static
-        ∙ ap (λ (d : MethodDesc). first (insn.op == INVOKESTATIC) ++ flat_map cell_words (map desc_cell d.params)) desc in
+    ap (λ (none : Bool). first none ++ flat_map cell_words (map desc_cell shape.desc.params)) static
+    ∙ ap (λ (d : MethodDesc). first (insn.op == INVOKESTATIC) ++ flat_map cell_words (map desc_cell d.params)) desc in
     entered_kinds w framed shape taken safe declared
     (holds ∙ ap (flat_map cell_words) cells_are ∙ flat_map-append cell_words (receiver (insn.op == INVOKESTATIC)) params
     ∙ ap (λ (ks : List WordKind). ks ++ flat_map cell_words params) (of_receiver (insn.op == INVOKESTATIC)) ∙ sym entry_is)

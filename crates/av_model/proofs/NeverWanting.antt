@@ -1,5 +1,5 @@
 -- An instruction of a kind safe method finds its operands in a frame of the right kinds.
-use Rattle.std.proofs.Common.{◌≡◌, ℕ, zero, suc, ◌+◌, Bool, false, List, [], ◌∷◌, ◌++◌, Option, Some, map, length, take, drop, refl, sym, ap, subst, ◌∙◌, ⊎_elim, arith}
+use Rattle.std.proofs.Common.{◌≡◌, ℕ, zero, suc, Bool, false, List, [], ◌∷◌, ◌++◌, Option, Some, map, length, take, drop, refl, sym, ap, subst, ◌∙◌, ⊎_elim, arith}
 use Rattle.std.specs.Prelude.{slice_get, slice_index_or}
 use Rattle.std.specs.List.{flat_map}
 use Rattle.std.proofs.lemmas.List.{append-nil, length-map, take-append-drop}
@@ -9,17 +9,16 @@ use Rattle.jv_table.specs.declared.code_tables.Cell.TheVariants.{Int, Float, Lon
 use Rattle.jv_types.specs.Bodies.{at_offset}
 use Rattle.jv_types.specs.declared.frames.Frame.{Frame}
 use Rattle.jv_types.specs.declared.frames.VType.{VType}
-use Rattle.jv_types.specs.declared.instruction.Insn.{Insn}
 use Rattle.jv_types.specs.declared.shapes.Shape.{Shape}
 use Rattle.jv_insn.specs.Effects.{Shuffle, effect_of}
-use Rattle.jv_insn.specs.KindSafe.{FitsAt, HasWords, IsKindSafe, IsKindSafeAt, LocalHolds}
+use Rattle.jv_insn.specs.KindSafe.{HasWords, IsKindSafe, LocalHolds}
 use Rattle.jv_insn.specs.Kinds.{EndsWithCells, HoldsCell, SaysOnly, WordKind, Word, Reference, Unknown, cell_words, is_wide, kind_of, kinds_after}
 use Rattle.jv_insn.proofs.HeldCells.{held_kinds}
 use Rattle.jv_insn.proofs.KindSafe.{fits_start}
 use Rattle.jv_insn.proofs.OneEach.{value_of}
 use Rattle.av_states.specs.declared.held.Held.{Held}
 use Rattle.av_model.specs.NeverWanting.{HasKinds, IsNotWanting, kinds_held}
-use Rattle.av_model.specs.Operands.{HasOperands, HoldCells, LocalHoldsCell, kind_of_held}
+use Rattle.av_model.specs.Operands.{HoldCells, LocalHoldsCell, kind_of_held}
 use Rattle.av_model.specs.Spots.{Spot}
 
 -- ---- kinds that say something
@@ -134,9 +133,12 @@ local_kinds cell zero second types h =
     let first = take count types in
     let rest = drop count types in
     let split = kinds_split second first rest in
-    let held = held_kinds (cell ∷ []) second [] first (first, ([], (sym (append-nil first), h, refl))) in
-    ([], split.0, refl,
-    ap (kinds_after second) (sym (take-append-drop count types)) ∙ split.1 ∙ ap (λ (ks : List WordKind). ks ++ split.0) held)
+    let held = held_kinds (cell ∷ []) second [] first (first, ([], (sym (append-nil first), h, refl))) in (
+      [],
+      split.0,
+      refl,
+      ap (kinds_after second) (sym (take-append-drop count types)) ∙ split.1 ∙ ap (λ (ks : List WordKind). ks ++ split.0) held,
+    )
 local_kinds cell (suc local) second [] h = absurd (holds_some cell h)
 local_kinds cell (suc local) second (type ∷ types) h =
     let more = local_kinds cell local (is_wide type) types h in

@@ -1,5 +1,5 @@
 -- A throwable of the library's has a label, so that it may always be thrown.
-use Rattle.std.proofs.Common.{◌≡◌, ℕ, ◌≤◌, List, [], ◌∷◌, ◌++◌, None, Some, length, refl, inl, subst, sym, arith, ⊎_elim}
+use Rattle.std.proofs.Common.{ℕ, List, [], ◌∷◌, ◌++◌, None, Some, length, refl, inl, subst, sym, arith, ⊎_elim}
 use Rattle.jv_types.specs.declared.frames.FramedBody.{FramedBody}
 use Rattle.jv_types.specs.declared.ids.ClassId.{ClassId}
 use Rattle.jv_types.specs.declared.instruction.Insn.{Insn}
@@ -34,13 +34,15 @@ may_raise w methods old thread below spot insn type stands is raised =
       labelled = subst P (sym raised.2) (unseen_label w old.dims low raised.1);
       after = refl;
     } in
-    let out : Outcome = record { calls = []; state = mid; frames = below ++ frame_of spot ∷ []; thrown = Some (length old.heap) } in
-    (set_thread mid thread out.frames out.thrown, record {
-      out = out;
-      steps = by_raise below spot insn type mid stands is makes;
-      calls_are = refl;
-      after = refl;
-    })
+    let out : Outcome = record { calls = []; state = mid; frames = below ++ frame_of spot ∷ []; thrown = Some (length old.heap) } in (
+      set_thread mid thread out.frames out.thrown,
+      record {
+        out = out;
+        steps = by_raise below spot insn type mid stands is makes;
+        calls_are = refl;
+        after = refl;
+      },
+    )
 
 pub stays_above : (w : List Shape) (low : ClassId) (ifs : List ClassId) (d : ClassId) → NeverBelowApplication w → IsUnseenClass w low ifs
     → IsOfClass w (Lib low ifs) d → IsLibraryClass w d

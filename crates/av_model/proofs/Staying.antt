@@ -1,6 +1,6 @@
 -- Objects stay, and keep their types and labels: by each family of steps, and by each step.
 use Rattle.std.proofs.Common.{◌≡◌, ℕ, List, [], ◌∷◌, ◌++◌, Some, map, length, refl, sym, ap, ◌∙◌, append_assoc}
-use Rattle.std.specs.Prelude.{slice_get, slice_set}
+use Rattle.std.specs.Prelude.{slice_get}
 use Rattle.std.proofs.lemmas.Option.{get_or_from_slice_get}
 use Rattle.std.proofs.lemmas.List.{map-append, append-nil}
 use Rattle.std.proofs.Math.Seq.{map-set_same}
@@ -12,7 +12,7 @@ use Rattle.jv_types.specs.declared.label.LibBase.TheVariants as bases
 use Rattle.jv_types.specs.declared.shapes.Shape.{Shape}
 use Rattle.av_states.specs.declared.event.Choice.{Choice}
 use Rattle.av_states.specs.declared.held.Held.{Held}
-use Rattle.av_states.specs.declared.held.Held.TheVariants.{Null, Ref, Word}
+use Rattle.av_states.specs.declared.held.Held.TheVariants.{Ref, Word}
 use Rattle.av_states.specs.declared.run_type.RunType.{RunType, Lib}
 use Rattle.av_states.specs.declared.state.Activation.{Activation}
 use Rattle.av_states.specs.declared.state.CellKey.{CellKey}
@@ -51,10 +51,11 @@ keeps_make old objects = (map origin_of objects, map-append origin_of old.heap o
 pub keeps_write : (old : State) (number : ℕ) (object : HeapObject) (key : CellKey) (held : Held) → slice_get old.heap number ≡ Some object
     → KeepsObjects old (write_object old number object key held)
 keeps_write old number object key held at =
-    let written = write_cell object key held in
-    ([],
-    map-set_same origin_of old.heap number written object (sym (ap origin_of (get_or_from_slice_get old.heap number object object at)))
-    ∙ sym (append-nil (map origin_of old.heap)))
+    let written = write_cell object key held in (
+      [],
+      map-set_same origin_of old.heap number written object (sym (ap origin_of (get_or_from_slice_get old.heap number object object at)))
+          ∙ sym (append-nil (map origin_of old.heap)),
+    )
 
 -- what becomes known changes no object
 known_heap : (state : State) (words : List Held) → (make_all_known state words).heap ≡ state.heap

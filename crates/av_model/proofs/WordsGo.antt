@@ -1,5 +1,5 @@
 -- An instruction that only moves words goes on to each of its places.
-use Rattle.std.proofs.Common.{◌≡◌, ℕ, IsTrue, List, [], ◌∷◌, ◌++◌, None, refl}
+use Rattle.std.proofs.Common.{ℕ, IsTrue, List, [], ◌∷◌, ◌++◌, None, refl}
 use Rattle.std.specs.List.{flat_map}
 use Rattle.jv_types.specs.declared.frames.FramedBody.{FramedBody}
 use Rattle.jv_types.specs.declared.instruction.Insn.{Insn}
@@ -19,11 +19,13 @@ pub words_go : (w : List Shape) (methods : List FramedBody) (old : State) (threa
     → (new : State) × AppStep w methods old thread (Go branch 0) [] new
 words_go w methods old thread below spot insn taken branch to stands is has words goes =
     let given = flat_map plain_words (effect_of insn).gives in
-    let out : Outcome = quiet old (below ++ goes_on spot insn given to ∷ []) in
-    (set_thread old thread out.frames out.thrown, record {
-      out = out;
-      steps = by_insn below spot insn taken (Go branch 0) out stands is has
-          (goes_on_in_frame branch 0 given old to (moves_words given refl (record { of_words = words; gives = refl })) goes);
-      calls_are = refl;
-      after = refl;
-    })
+    let out : Outcome = quiet old (below ++ goes_on spot insn given to ∷ []) in (
+      set_thread old thread out.frames out.thrown,
+      record {
+        out = out;
+        steps = by_insn below spot insn taken (Go branch 0) out stands is has
+            (goes_on_in_frame branch 0 given old to (moves_words given refl (record { of_words = words; gives = refl })) goes);
+        calls_are = refl;
+        after = refl;
+      },
+    )

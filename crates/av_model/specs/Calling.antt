@@ -1,5 +1,5 @@
 -- Calls (JVMS 6.5, the four invocations): which method runs, and what is entered.
-use Rattle.std.specs.Prelude.{◌≡◌, ℕ, List, [], ◌∷◌, ◌++◌, Some, slice_get, Contains}
+use Rattle.std.specs.Prelude.{◌≡◌, ℕ, List, [], ◌∷◌, Some, slice_get, Contains}
 use Rattle.jv_table.specs.declared.ops.TheConstants.{INVOKEVIRTUAL, INVOKESPECIAL, INVOKESTATIC, INVOKEINTERFACE}
 use Rattle.jv_types.specs.Bodies.{IsNextStart}
 use Rattle.jv_types.specs.declared.frames.FramedBody.{FramedBody}

@@ -1,5 +1,5 @@
 -- Items of arrays (JVMS 6.5, the loads and stores of arrays). Any index may be taken, since lengths aren't kept.
-use Rattle.std.specs.Prelude.{◌≡◌, ℕ, ◌-◌, Bool, ◌&&◌, ◌||◌, ◌==◌, IsTrue, nat_le, not, List, [], ◌∷◌, ◌++◌, Some, slice_get, unwrap_or}
+use Rattle.std.specs.Prelude.{◌≡◌, ℕ, Bool, ◌&&◌, ◌==◌, IsTrue, nat_le, not, List, [], ◌∷◌, Some, slice_get}
 use Rattle.std.specs.List.{flat_map}
 use Rattle.jv_table.specs.declared.ops.TheConstants.{IALOAD, AALOAD, SALOAD, IASTORE, AASTORE, SASTORE}
 use Rattle.jv_types.specs.declared.instruction.Insn.{Insn}

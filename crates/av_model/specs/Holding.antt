@@ -1,6 +1,6 @@
 -- What objects and static fields hold, how they are written, and what the library has in its hands (JVMS 2.3, 2.4,
 -- 2.5.3).
-use Rattle.std.specs.Prelude.{◌≡◌, ℕ, ◌++◌, List, [], ◌∷◌, Option, Some, None, length, unwrap_or, slice_get, slice_set}
+use Rattle.std.specs.Prelude.{ℕ, ◌++◌, List, [], ◌∷◌, Option, unwrap_or, slice_set}
 use Rattle.std.specs.BTreeMap.{insert_entry, is_at}
 use Rattle.std.specs.BTreeSet.{insert_key}
 use Rattle.std.specs.Map.{lookup}

@@ -1,5 +1,5 @@
 -- Frames whose words are of the kinds that their method's frames say. What stands in such a frame never wants for an operand.
-use Rattle.std.specs.Prelude.{◌≡◌, ◌≤◌, ℕ, List, [], ◌∷◌, length, map}
+use Rattle.std.specs.Prelude.{◌≤◌, ℕ, List, [], ◌∷◌, length, map}
 use Rattle.jv_types.specs.declared.body.Handler.{Handler}
 use Rattle.jv_types.specs.declared.frames.FramedBody.{FramedBody}
 use Rattle.jv_types.specs.declared.instruction.Insn.{Insn}

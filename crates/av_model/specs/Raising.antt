@@ -1,7 +1,6 @@
 -- Throwing and catching (JVMS 2.10, 4.7.3, 6.5 athrow).
 use Rattle.std.specs.Prelude.{◌≡◌, ℕ, List, [], ◌∷◌, ◌++◌, Option, Some, None, length, slice_get}
 use Rattle.jv_types.specs.declared.body.Handler.{Handler}
-use Rattle.jv_types.specs.declared.ids.MethodId.{MethodId}
 use Rattle.jv_types.specs.declared.label.Label.{Label}
 use Rattle.jv_types.specs.declared.shapes.Shape.{Shape}
 use Rattle.jv_world.specs.MemberPlaces.{IsFirstPlace, NoneIn}
@@ -11,7 +10,6 @@ use Rattle.av_states.specs.declared.held.Held.TheVariants.{Ref}
 use Rattle.av_states.specs.declared.run_type.RunType.{RunType}
 use Rattle.av_states.specs.declared.state.Activation.{Activation}
 use Rattle.av_states.specs.declared.state.Activation.TheVariants.{App, Library}
-use Rattle.av_states.specs.declared.state.HeapObject.{HeapObject}
 use Rattle.av_states.specs.declared.state.State.{State}
 use Rattle.av_model.specs.Holding.{make, make_known}
 use Rattle.av_model.specs.LibraryTypes.{IsRaised, LabelOf}

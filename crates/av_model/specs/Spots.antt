@@ -1,10 +1,9 @@
 -- Where a thread stands in a method of the application, and where it goes on (JVMS 2.5.1, 2.6).
-use Rattle.std.specs.Prelude.{◌≡◌, ℕ, zero, suc, ◌-◌, ◌++◌, ◌⊎◌, Bool, true, false, List, [], ◌∷◌, Option, Some, None, length, max, replicate, slice_get, slice_set, Contains}
+use Rattle.std.specs.Prelude.{◌≡◌, ℕ, zero, suc, ◌-◌, ◌++◌, Bool, true, false, List, [], ◌∷◌, Option, Some, length, max, replicate, slice_get, slice_set, Contains}
 use Rattle.jv_types.specs.Bodies.{IsNextStart, at_offset}
 use Rattle.jv_types.specs.declared.body.Body.{Body}
 use Rattle.jv_types.specs.declared.frames.Frame.{Frame}
 use Rattle.jv_types.specs.declared.frames.FramedBody.{FramedBody}
-use Rattle.jv_types.specs.declared.ids.MethodId.{MethodId}
 use Rattle.jv_types.specs.declared.instruction.Insn.{Insn}
 use Rattle.jv_insn.specs.Effects.{effect_of}
 use Rattle.jv_insn.specs.Leaving.{Words}
@@ -13,7 +12,6 @@ use Rattle.av_states.specs.declared.held.Held.TheVariants.{Word}
 use Rattle.av_states.specs.declared.state.Activation.{Activation}
 use Rattle.av_states.specs.declared.state.Activation.TheVariants.{App}
 use Rattle.av_states.specs.declared.state.State.{State}
-use Rattle.av_states.specs.declared.state.ThreadState.{ThreadState}
 use Rattle.av_model.specs.Operands.{leave}
 
 -- a method of the application that was entered, the offset that it is at, and its words
