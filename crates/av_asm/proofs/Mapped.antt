@@ -45,8 +45,8 @@ pub record IsWrittenType (old new : List PoolItem) (type : VType) (m : MapType) 
   pub is : (later : List PoolItem) → Grows new later → IsTypeOf later m type
 
 object_written : (type : VType) (old : List PoolItem) (made : MapType × List PoolItem) → is_object type ≡ true → IsMapped type → put_object type old ≡ Some made → IsWrittenType old made.1 type made.0
-object_written type old made yes mapped e =
-    let of = mapped yes in
+object_written type old made is mapped e =
+    let of = mapped is in
     let a = bind_some (put_class (object_text type) old) (λ named. Some (map_type 7 named.0, named.1)) made e in
     let p = class_put (object_text type) old a.0 a.1 in
     let text : object_text type ≡ type_text of.0 = object_text-vtype type of.0 of.1 in
@@ -118,7 +118,7 @@ pub record IsWrittenFrame (old new : List PoolItem) (max_locals : ℕ) (insns : 
   pub stack_made : All (IsMade insns) stack
 
 top_mapped : IsMapped Top
-top_mapped yes = absurd (false≢true yes)
+top_mapped is = absurd (false≢true is)
 
 -- the values of the frame's words are written, and make the same frame
 frame_written : (max_locals : ℕ) (insns : List (ℕ × Insn)) (delta : ℕ) (frame : Frame) (old : List PoolItem) (made : MapFrame × List PoolItem) → IsFullFrame max_locals insns frame → put_frame (delta, frame) old ≡ Some made
@@ -141,8 +141,8 @@ frame_written max_locals insns delta frame old made full e =
       stack = full.stack;
       delta_is = ap (λ (g : _). delta_in g here.0) full_group;
       types = λ later before grows. record {
-          locals_are = subst (λ (g : _). AreLocalsIn g later before here.0 locals) (sym full_group) (first.are later (grows_on a.0.1 b.0.1 later second.grows grows));
-          stack_is = second.are later grows;
+        locals_are = subst (λ (g : _). AreLocalsIn g later before here.0 locals) (sym full_group) (first.are later (grows_on a.0.1 b.0.1 later second.grows grows));
+        stack_is = second.are later grows;
       };
       is = full.is ∙ sym (frame_back max_locals full.locals full.stack l);
       fits = omega (arith, l.long);
@@ -175,15 +175,17 @@ frames_written body base (row ∷ rows) old new written rising starts stacks ful
     let all : AreWrittenFrames old h.more.1 body base (row ∷ rows) (f ∷ h.more.0) = record {
       grows = grows_on old h.first.1 h.more.1 one.grows more.grows;
       are = λ later before grows. (
-          one.locals, one.stack, rows,
-          record {
-            at_instruction = subst (IsStart body.insns) (sym here) starts.0;
-            types = one.types later before (grows_on h.first.1 h.more.1 later more.grows grows);
-            fits = record { locals_fit = one.fits; stack_fits = stack_fits; locals_made = one.locals_made; stack_made = one.stack_made };
-          },
-          ap (λ (k : ℕ). let r : ℕ × Frame = (k, row.1) in r ∷ rows) (sym here)
-          ∙ ap (λ (g : Frame). let r : ℕ × Frame = (base + frame_delta f, g) in r ∷ rows) one.is,
-          subst (λ (k : ℕ). AreMapFrames later body (k + 1) one.locals h.more.0 rows) (sym here) (more.are later one.locals grows),
+        one.locals,
+        one.stack,
+        rows,
+        record {
+          at_instruction = subst (IsStart body.insns) (sym here) starts.0;
+          types = one.types later before (grows_on h.first.1 h.more.1 later more.grows grows);
+          fits = record { locals_fit = one.fits; stack_fits = stack_fits; locals_made = one.locals_made; stack_made = one.stack_made };
+        },
+        ap (λ (k : ℕ). let r : ℕ × Frame = (k, row.1) in r ∷ rows) (sym here)
+            ∙ ap (λ (g : Frame). let r : ℕ × Frame = (base + frame_delta f, g) in r ∷ rows) one.is,
+        subst (λ (k : ℕ). AreMapFrames later body (k + 1) one.locals h.more.0 rows) (sym here) (more.are later one.locals grows),
       );
     } in
     subst (λ (w : List MapFrame). AreWrittenFrames old new body base (row ∷ rows) w) (sym h.written_are) (subst (λ (p : List PoolItem). AreWrittenFrames old p body base (row ∷ rows) (f ∷ h.more.0)) (sym h.now_is) all)

@@ -24,19 +24,21 @@ same_frames a b (row ∷ rows) same =
 
 pub no_frames : (test : ℕ → Bool) (rows : List (ℕ × Frame)) → list_any (λ (row : ℕ × Frame). test row.0) rows ≡ false → frames_where test rows ≡ []
 no_frames test [] e = refl
-no_frames test (row ∷ rows) e = by (test row.0) e
+no_frames test (row ∷ rows) e = by (test row.0) (no_frames test rows) e
   where
-    by : (b : Bool) → (b || list_any (λ (r : ℕ × Frame). test r.0) rows) ≡ false → cond b (row ∷ frames_where test rows) (frames_where test rows) ≡ []
-    by true e = absurd cc
-    by false e = no_frames test rows e
+    by : (b : Bool) → (list_any (λ (r : ℕ × Frame). test r.0) rows ≡ false → frames_where test rows ≡ []) → (b || list_any (λ (r : ℕ × Frame). test r.0) rows) ≡ false
+        → cond b (row ∷ frames_where test rows) (frames_where test rows) ≡ []
+    by true more e = absurd cc
+    by false more e = more e
 
 pub some_frames : (test : ℕ → Bool) (rows : List (ℕ × Frame)) → list_any (λ (row : ℕ × Frame). test row.0) rows ≡ true → (first : ℕ × Frame) × (rest : List (ℕ × Frame)) × (frames_where test rows ≡ first ∷ rest)
 some_frames test [] e = absurd cc
-some_frames test (row ∷ rows) e = by (test row.0) e
+some_frames test (row ∷ rows) e = by (test row.0) (some_frames test rows) e
   where
-    by : (b : Bool) → (b || list_any (λ (r : ℕ × Frame). test r.0) rows) ≡ true → (first : ℕ × Frame) × (rest : List (ℕ × Frame)) × (cond b (row ∷ frames_where test rows) (frames_where test rows) ≡ first ∷ rest)
-    by true e = (row, frames_where test rows, refl)
-    by false e = some_frames test rows e
+    by : (b : Bool) → (list_any (λ (r : ℕ × Frame). test r.0) rows ≡ true → (first : ℕ × Frame) × (rest : List (ℕ × Frame)) × (frames_where test rows ≡ first ∷ rest)) → (b || list_any (λ (r : ℕ × Frame). test r.0) rows) ≡ true
+        → (first : ℕ × Frame) × (rest : List (ℕ × Frame)) × (cond b (row ∷ frames_where test rows) (frames_where test rows) ≡ first ∷ rest)
+    by true more e = (row, frames_where test rows, refl)
+    by false more e = more e
 
 -- ---- rising offsets
 
@@ -45,7 +47,7 @@ rises_lower {I} low high [] le h = refl
 rises_lower {I} low high (row ∷ rows) le h = by (leb high row.0) refl h
   where
     by : (b : Bool) → leb high row.0 ≡ b → (b && rises_from (row.0 + 1) rows) ≡ true → (leb low row.0 && rises_from (row.0 + 1) rows) ≡ true
-    by true is h = let yes : leb low row.0 ≡ true = grind (arith, nat_tests) in rw yes h
+    by true is h = let lower : leb low row.0 ≡ true = grind (arith, nat_tests) in rw lower h
     by false is h = absurd cc
 
 pub rises_first : {I : Type 0} (low : ℕ) (row : ℕ × I) (rows : List (ℕ × I)) → rises_from low (row ∷ rows) ≡ true → (low ≤ row.0) × (rises_from (row.0 + 1) rows ≡ true)
@@ -57,11 +59,14 @@ rises_first {I} low row rows h = by (leb low row.0) refl h
 
 pub filtered_rise : (test : ℕ → Bool) (low : ℕ) (rows : List (ℕ × Frame)) → rises_from low rows ≡ true → rises_from low (frames_where test rows) ≡ true
 filtered_rise test low [] h = refl
-filtered_rise test low (row ∷ rows) h = by (test row.0) (rises_first low row rows h)
+filtered_rise test low (row ∷ rows) h =
+    let f = rises_first low row rows h in
+    by (test row.0) f.0 (filtered_rise test (row.0 + 1) rows f.1)
+    (filtered_rise test low rows (rises_lower low (row.0 + 1) rows (omega (arith, f.0)) f.1))
   where
-    by : (b : Bool) → (low ≤ row.0) × (rises_from (row.0 + 1) rows ≡ true) → rises_from low (cond b (row ∷ frames_where test rows) (frames_where test rows)) ≡ true
-    by true f = let yes : leb low row.0 ≡ true = grind (arith, nat_tests, f.0) in rw yes (filtered_rise test (row.0 + 1) rows f.1)
-    by false f = filtered_rise test low rows (rises_lower low (row.0 + 1) rows (omega (arith, f.0)) f.1)
+    by : (b : Bool) → low ≤ row.0 → rises_from (row.0 + 1) (frames_where test rows) ≡ true → rises_from low (frames_where test rows) ≡ true → rises_from low (cond b (row ∷ frames_where test rows) (frames_where test rows)) ≡ true
+    by true le behind below = let is : leb low row.0 ≡ true = grind (arith, nat_tests) in rw is behind
+    by false le behind below = below
 
 -- ---- the loop
 
@@ -86,10 +91,10 @@ base_below test rows i base row initial now written lt is h =
 -- a frame at no target is passed over
 pub maps_over : (test : ℕ → Bool) (rows : List (ℕ × Frame)) (i base : ℕ) (row : ℕ × Frame) (initial now : List PoolItem) (written : List MapFrame) → i < length rows → row ≡ get_or rows i row
     → test row.0 ≡ false → AreMapsSoFar test rows i base initial now written → AreMapsSoFar test rows (i + 1) base initial now written
-maps_over test rows i base row initial now written lt is no h =
+maps_over test rows i base row initial now written lt is off h =
     let next = base_below test rows i base row initial now written lt is h in
     let left : frames_where test (drop i rows) ≡ frames_where test (drop (i + 1) rows) =
-    ap (frames_where test) (next_row rows i row lt is) ∙ ap (λ (b : Bool). cond b (row ∷ frames_where test (drop (i + 1) rows)) (frames_where test (drop (i + 1) rows))) no in
+    ap (frames_where test) (next_row rows i row lt is) ∙ ap (λ (b : Bool). cond b (row ∷ frames_where test (drop (i + 1) rows)) (frames_where test (drop (i + 1) rows))) off in
     record {
       so_far = subst (λ (rs : List (ℕ × Frame)). IsPutSoFar put_frame (deltas_from 0 (frames_where test rows)) (deltas_from base rs) initial now written) left h.so_far;
       rising = rises_lower base (row.0 + 1) (drop (i + 1) rows) (omega (arith, next.0)) next.1;
@@ -99,17 +104,17 @@ maps_over test rows i base row initial now written lt is no h =
 -- the next one at a target is the first that is left
 left_first : (test : ℕ → Bool) (rows : List (ℕ × Frame)) (i base : ℕ) (row : ℕ × Frame) → i < length rows → row ≡ get_or rows i row → test row.0 ≡ true
     → deltas_from base (frames_where test (drop i rows)) ≡ (row.0 - base, row.1) ∷ deltas_from (row.0 + 1) (frames_where test (drop (i + 1) rows))
-left_first test rows i base row lt is yes =
+left_first test rows i base row lt is on =
     ap (λ (rs : List (ℕ × Frame)). deltas_from base (frames_where test rs)) (next_row rows i row lt is)
-    ∙ ap (λ (b : Bool). deltas_from base (cond b (row ∷ frames_where test (drop (i + 1) rows)) (frames_where test (drop (i + 1) rows)))) yes
+    ∙ ap (λ (b : Bool). deltas_from base (cond b (row ∷ frames_where test (drop (i + 1) rows)) (frames_where test (drop (i + 1) rows)))) on
 
 pub maps_more : (test : ℕ → Bool) (rows : List (ℕ × Frame)) (i base : ℕ) (row : ℕ × Frame) (initial now new : List PoolItem) (written more : List MapFrame) (f : MapFrame) (next : ℕ) → i < length rows → row ≡ get_or rows i row
     → test row.0 ≡ true → row.0 < 65536 → AreMapsSoFar test rows i base initial now written → put_frame (row.0 - base, row.1) now ≡ Some (f, new) → Grows now new → more ≡ written ++ f ∷ [] → next ≡ row.0 + 1
     → AreMapsSoFar test rows (i + 1) next initial new more
-maps_more test rows i base row initial now new written more f next lt is yes small h put grows pushed ends =
+maps_more test rows i base row initial now new written more f next lt is on small h put grows pushed ends =
     let all = deltas_from 0 (frames_where test rows) in
     let rest = deltas_from (row.0 + 1) (frames_where test (drop (i + 1) rows)) in
-    let before : IsPutSoFar put_frame all ((row.0 - base, row.1) ∷ rest) initial now written = subst (λ (left : List (ℕ × Frame)). IsPutSoFar put_frame all left initial now written) (left_first test rows i base row lt is yes) h.so_far in
+    let before : IsPutSoFar put_frame all ((row.0 - base, row.1) ∷ rest) initial now written = subst (λ (left : List (ℕ × Frame)). IsPutSoFar put_frame all left initial now written) (left_first test rows i base row lt is on) h.so_far in
     let after = put_more put_frame all rest (row.0 - base, row.1) f initial now new written before put grows in
     let at_end = subst (λ (fs : List MapFrame). IsPutSoFar put_frame all rest initial new fs) (sym pushed) after in
     let there = base_below test rows i base row initial now written lt is h in
@@ -121,10 +126,10 @@ maps_more test rows i base row initial now new written more f next lt is yes sma
 
 pub maps_stopped : (test : ℕ → Bool) (rows : List (ℕ × Frame)) (i base : ℕ) (row : ℕ × Frame) (initial now : List PoolItem) (written : List MapFrame) → i < length rows → row ≡ get_or rows i row
     → test row.0 ≡ true → AreMapsSoFar test rows i base initial now written → put_frame (row.0 - base, row.1) now ≡ None → put_each put_frame (deltas_from 0 (frames_where test rows)) initial ≡ None
-maps_stopped test rows i base row initial now written lt is yes h none =
+maps_stopped test rows i base row initial now written lt is on h none =
     let all = deltas_from 0 (frames_where test rows) in
     let rest = deltas_from (row.0 + 1) (frames_where test (drop (i + 1) rows)) in
-    let before : IsPutSoFar put_frame all ((row.0 - base, row.1) ∷ rest) initial now written = subst (λ (left : List (ℕ × Frame)). IsPutSoFar put_frame all left initial now written) (left_first test rows i base row lt is yes) h.so_far in
+    let before : IsPutSoFar put_frame all ((row.0 - base, row.1) ∷ rest) initial now written = subst (λ (left : List (ℕ × Frame)). IsPutSoFar put_frame all left initial now written) (left_first test rows i base row lt is on) h.so_far in
     put_stopped put_frame all rest (row.0 - base, row.1) initial now written before none
 
 pub maps_ended : (test : ℕ → Bool) (rows : List (ℕ × Frame)) (i base : ℕ) (initial now : List PoolItem) (written : List MapFrame) → length rows ≤ i → AreMapsSoFar test rows i base initial now written

@@ -86,11 +86,11 @@ are_laid all pc (step ∷ steps) =
 -- what stands at these offsets rises
 pub zip_rises : {Y : Type 0} (low pc : ℕ) (steps : List Step) (ys : List Y) → low ≤ pc → rises_from low (zip (starts_from pc steps) ys) ≡ true
 zip_rises low pc [] [] le = refl
-zip_rises low pc [] (y ∷ ys) le = let yes : leb low pc ≡ true = grind (arith, nat_tests) in rw yes refl
+zip_rises low pc [] (y ∷ ys) le = let is : leb low pc ≡ true = grind (arith, nat_tests) in rw is refl
 zip_rises low pc (step ∷ steps) [] le = refl
 zip_rises low pc (step ∷ steps) (y ∷ ys) le =
-    let yes : leb low pc ≡ true = grind (arith, nat_tests) in
-    rw yes (zip_rises (pc + 1) (pc + step_size pc step) steps ys (omega (arith, step_some pc step)))
+    let is : leb low pc ≡ true = grind (arith, nat_tests) in
+    rw is (zip_rises (pc + 1) (pc + step_size pc step) steps ys (omega (arith, step_some pc step)))
 
 -- so do the instructions
 placed_rise : (all : List ℕ) (low : ℕ) (rows : List (ℕ × Step)) → rises_from low (map (placed_insn all) rows) ≡ rises_from low rows
@@ -100,10 +100,15 @@ placed_rise all low (row ∷ rows) = ap (λ (b : Bool). leb low row.0 && b) (pla
 pub insns_rise : (steps : List Step) → rises_from 0 (insns_of (starts_from 0 steps) steps) ≡ true
 insns_rise steps = placed_rise (starts_from 0 steps) 0 (zip (starts_from 0 steps) steps) ∙ zip_rises 0 0 steps steps (omega arith)
 
+pub built_rise : (steps : List Step) (insns made : List (ℕ × Insn)) (starts lent : List ℕ) → insns ≡ made → made ≡ insns_of lent steps → lent ≡ starts → starts ≡ starts_from 0 steps → rises_from 0 insns ≡ true
+built_rise steps insns made starts lent is_made is_placed is_lent are =
+    let whole : insns ≡ insns_of (starts_from 0 steps) steps = is_made ∙ is_placed ∙ ap (λ (s : List ℕ). insns_of s steps) (is_lent ∙ are) in
+    ap (rises_from 0) whole ∙ insns_rise steps
+
 -- ---- starts
 
 start_here : {I : Type 0} (row : ℕ × I) (rows : List (ℕ × I)) (pc : ℕ) → row.0 ≡ pc → IsStart (row ∷ rows) pc
-start_here {I} row rows pc e = let yes : eqb row.0 pc ≡ true = grind (arith, nat_tests) in by (eqb row.0 pc) yes
+start_here {I} row rows pc e = let is : eqb row.0 pc ≡ true = grind (arith, nat_tests) in by (eqb row.0 pc) is
   where
     by : (b : Bool) → b ≡ true → IsSome (cond b (Some row.1) (at_offset pc rows))
     by true e = refl

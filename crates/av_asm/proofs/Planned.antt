@@ -70,8 +70,8 @@ may_write pool built framed keeps may is =
 
 pub filtered : {A : Type 0} (P : A → Type 0) (test : A → Bool) (xs : List A) → AllByRecursion P xs → AllByRecursion P (filter test xs)
 filtered {A} P test [] h = tt
-filtered {A} P test (x ∷ xs) h = by (test x)
+filtered {A} P test (x ∷ xs) h = by (test x) (filtered P test xs h.1)
   where
-    by : (b : Bool) → AllByRecursion P (cond b (x ∷ filter test xs) (filter test xs))
-    by true = (h.0, filtered P test xs h.1)
-    by false = filtered P test xs h.1
+    by : (b : Bool) → AllByRecursion P (filter test xs) → AllByRecursion P (cond b (x ∷ filter test xs) (filter test xs))
+    by true more = (h.0, more)
+    by false more = more

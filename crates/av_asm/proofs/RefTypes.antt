@@ -1,5 +1,5 @@
 -- The class or array type of a verification type.
-use Rattle.std.proofs.Common.{◌≡◌, ℕ, zero, suc, ◌+◌, ◌≤◌, List, [], Option, Some, None, refl, sym, ap, ◌∙◌, ◌⊎◌, inl, inr, arith}
+use Rattle.std.proofs.Common.{◌≡◌, ℕ, zero, suc, ◌≤◌, List, [], Option, Some, None, refl, sym, ap, ◌∙◌, inl, inr, arith}
 use Rattle.std.specs.Prelude.{option_map}
 use Rattle.std.specs.Option.{option_map_or}
 use Rattle.jv_types.specs.declared.desc.RefType.{RefType}
@@ -7,7 +7,7 @@ use Rattle.jv_types.specs.declared.desc.RefType as refs
 use Rattle.jv_types.specs.declared.frames.VType.{VType}
 use Rattle.jv_types.specs.declared.frames.VType as types
 use Rattle.jv_desc.specs.Texts.{ref_dims}
-use Rattle.jv_desc.proofs.Fronts.{layers}
+use Rattle.jv_desc.proofs.Fronts.{Layer, layers}
 use Rattle.jv_desc.proofs.Layers.{ref_dims-Array}
 use Rattle.jv_names.specs.Naming.{type_text}
 use Rattle.jv_frames.specs.Types.{ref_vtype}
@@ -32,17 +32,19 @@ array_none of item p found is is_p is_found none =
     ap (option_map refs.Array) (sym none ∙ is_found ∙ ap ref_of is_p) ∙ sym (ref_of-Array item) ∙ ap ref_of (sym is)
 
 -- the type of a class's or array's verification type is itself
-back_below : (n : ℕ) (of : RefType) → ref_dims of ≤ n → ref_of (ref_vtype of) ≡ Some of
-back_below n of le = by n (layers of) le
+back_step : (of : RefType) → ((item : RefType) → of ≡ refs.Array item → ref_of (ref_vtype item) ≡ Some item) → ref_of (ref_vtype of) ≡ Some of
+back_step of items = by (layers of)
   where
-    by : (n : ℕ) → ((name : List ℕ) × (of ≡ refs.Class name)) ⊎ (((prim : _) × (of ≡ refs.PrimArray prim)) ⊎ ((item : RefType) × (of ≡ refs.Array item))) → ref_dims of ≤ n → ref_of (ref_vtype of) ≡ Some of
-    by n (inl c) le = ap (λ (t : RefType). ref_of (ref_vtype t)) c.1 ∙ ap (λ (t : RefType). Some t) (sym c.1)
-    by n (inr (inl p)) le = ap (λ (t : RefType). ref_of (ref_vtype t)) p.1 ∙ ap (λ (t : RefType). Some t) (sym p.1)
-    by zero (inr (inr a)) le = absurd (omega (arith, le, ap ref_dims a.1, ref_dims-Array a.0))
-    by (suc n) (inr (inr a)) le =
+    by : Layer of → ref_of (ref_vtype of) ≡ Some of
+    by (inl c) = ap (λ (t : RefType). ref_of (ref_vtype t)) c.1 ∙ ap (λ (t : RefType). Some t) (sym c.1)
+    by (inr (inl p)) = ap (λ (t : RefType). ref_of (ref_vtype t)) p.1 ∙ ap (λ (t : RefType). Some t) (sym p.1)
+    by (inr (inr a)) =
         ap (λ (t : RefType). ref_of (ref_vtype t)) a.1 ∙ ap ref_of (vtype-Array a.0) ∙ ref_of-Array (ref_vtype a.0)
-        ∙ ap (option_map refs.Array) (back_below n a.0 (omega (arith, le, ap ref_dims a.1, ref_dims-Array a.0)))
-        ∙ ap (λ (t : RefType). Some t) (sym a.1)
+        ∙ ap (option_map refs.Array) (items a.0 a.1) ∙ ap (λ (t : RefType). Some t) (sym a.1)
+
+back_below : (n : ℕ) (of : RefType) → ref_dims of ≤ n → ref_of (ref_vtype of) ≡ Some of
+back_below zero of le = back_step of (λ item is. absurd (omega (arith, le, ap ref_dims is, ref_dims-Array item)))
+back_below (suc n) of le = back_step of (λ item is. back_below n item (omega (arith, le, ap ref_dims is, ref_dims-Array item)))
 
 pub ref_of-vtype : (of : RefType) → ref_of (ref_vtype of) ≡ Some of
 ref_of-vtype of = back_below (ref_dims of) of (omega arith)

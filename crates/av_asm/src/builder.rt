@@ -82,11 +82,7 @@ fn land_step(steps: &mut Vec<Step>, number: usize, target: u32)
 
 impl CodeBuilder {
     /// A builder of the code of a method of a world, in which nothing was put yet.
-    pub fn new(
-        alloc: Global,
-        world: &World,
-        method: MethodId,
-    ) -> Result<CodeBuilder, AllocError>
+    pub fn new(alloc: Global, world: &World, method: MethodId) -> Result<CodeBuilder, AllocError>
         requires { HasMethod world.now method }
         ensures method { IfOk result (λ built. built.method ≡ method) }
         ensures words { IfOk result (λ built. AreArgumentWords world.now method built.words) }

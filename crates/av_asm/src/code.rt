@@ -51,13 +51,17 @@ pub fn code_attr(
     let insns = framed.body.insns.as_slice();
     let targets = targets_of(alloc, insns, framed.body.handlers.as_slice())?;
     let handlers = raw_handlers(alloc, framed.body.handlers.as_slice())?;
-    let code = encode(alloc, &framed.body, pool)?;
-    let attrs = map_attrs(alloc, pool, &targets, framed.frames.as_slice())?;
-    Ok(CodeAttr {
-        max_stack: framed.body.max_stack,
-        max_locals: framed.body.max_locals,
-        code: Seq::from_vec(code),
-        handlers: Seq::from_vec(handlers),
-        attrs: Seq::from_vec(attrs),
-    })
+    match encode(alloc, &framed.body, pool) {
+        Ok(code) => match map_attrs(alloc, pool, &targets, framed.frames.as_slice()) {
+            Ok(attrs) => Ok(CodeAttr {
+                max_stack: framed.body.max_stack,
+                max_locals: framed.body.max_locals,
+                code: Seq::from_vec(code),
+                handlers: Seq::from_vec(handlers),
+                attrs: Seq::from_vec(attrs),
+            }),
+            Err(e) => Err(e),
+        },
+        Err(e) => Err(e),
+    }
 }

@@ -28,14 +28,18 @@ fn map_frame(
     ensures put { Writes result pool.new (put_frame (delta, frame.now) pool.old) }
     ensures grown { Grows pool.old pool.new }
 {
-    let locals = map_types(alloc, pool, frame.locals.as_slice())?;
-    let stack = map_types(alloc, pool, frame.stack.as_slice())?;
-    Ok(MapFrame {
-        kind: frame_tags::FULL,
-        delta,
-        locals: Seq::from_vec(locals),
-        stack: Seq::from_vec(stack),
-    })
+    match map_types(alloc, pool, frame.locals.as_slice()) {
+        Ok(locals) => match map_types(alloc, pool, frame.stack.as_slice()) {
+            Ok(stack) => Ok(MapFrame {
+                kind: frame_tags::FULL,
+                delta,
+                locals: Seq::from_vec(locals),
+                stack: Seq::from_vec(stack),
+            }),
+            Err(e) => Err(e),
+        },
+        Err(e) => Err(e),
+    }
 }
 
 /// Writes full frames for those at targets, and adds the classes that they name.

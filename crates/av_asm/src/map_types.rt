@@ -21,11 +21,7 @@ fn plain(tag: u8) -> MapType
 }
 
 /// Writes a class or array type, and adds its class to the pool.
-fn map_object(
-    alloc: Global,
-    pool: &mut PoolWriter,
-    of: &VType,
-) -> Result<MapType, EncodeRefusal>
+fn map_object(alloc: Global, pool: &mut PoolWriter, of: &VType) -> Result<MapType, EncodeRefusal>
     ensures put { Writes result pool.new (put_object of.now pool.old) }
     ensures grown { Grows pool.old pool.new }
 {

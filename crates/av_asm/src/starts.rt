@@ -55,6 +55,7 @@ fn step_size(pc: u16, step: &Step) -> Option<usize>
 fn end_at(pc: u16, step: &Step) -> Option<u16>
     ensures some { IfSome result (λ end. end ≡ pc + step_size pc step.now) }
     ensures none { IfNone result (65535 < pc + step_size pc step.now) }
+    ensures within { IfSome result (λ end. end ≤ 65535) }
 {
     let size = step_size(pc, step)?;
     u16::try_from(size.checked_add(usize::from(pc))?).ok()
