@@ -5,6 +5,7 @@ pub mod Offsets
 pub mod Planned
 pub mod Putting
 pub mod RefTypes
+pub mod Tables
 pub mod TypesLoop
 pub mod Values
 pub mod Written
