@@ -1,0 +1,11 @@
+pub mod Keeping
+pub mod Mapped
+pub mod Marks
+pub mod Offsets
+pub mod Planned
+pub mod Putting
+pub mod RefTypes
+pub mod Tables
+pub mod TypesLoop
+pub mod Values
+pub mod Written

@@ -1,0 +1,5 @@
+pub mod Built
+pub mod Finishing
+pub mod Mapping
+pub mod Planning
+pub mod Steps
