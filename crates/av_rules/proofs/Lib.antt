@@ -1,0 +1,4 @@
+mod FactSets
+mod Flats
+mod Tables
+mod Types

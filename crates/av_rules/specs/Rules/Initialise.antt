@@ -1,0 +1,13 @@
+-- Initialise. In a method that is entered, new, getstatic, putstatic and invokestatic may first enter the initialisers
+-- of the application that the class has which they initialise, its superclasses and its superinterfaces (JVMS 5.5).
+use Rattle.std.specs.Prelude.{◌≡◌}
+use Rattle.jv_fix.specs.Facts.{Premises, One, Two}
+use Rattle.jv_types.specs.declared.fact.Fact.{Fact}
+use Rattle.jv_types.specs.declared.fact.Fact.TheVariants as facts
+use Rattle.av_conditions.specs.Initialisers.{MayEnter}
+use Rattle.av_rules.specs.Program.{Program, Point, IsPoint, method_of, site_of}
+
+abbrev pub Initialise : Program → Premises Fact → Fact → Type 0
+Initialise p (One (facts.Reach m)) (facts.Edge from c) =
+    (at : Point) × IsPoint p at × (method_of at ≡ m) × MayEnter p.world at.insn c × (from ≡ site_of at)
+Initialise p _ _ = ⊥

@@ -1,0 +1,4 @@
+-- What private clauses cite.
+pub mod Kept
+pub mod Programs
+pub mod Tables

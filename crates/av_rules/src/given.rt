@@ -1,0 +1,43 @@
+ghost use Rattle.std.specs.Prelude.{◌≡◌, ◌↔◌, Some, IsTrue, IfSome, IfNone, Contains};
+ghost use Rattle.jv_types.specs.declared.frames.FramedBody.{FramedBody as Framed};
+ghost use Rattle.av_conditions.specs.Initialisers.{IsApplicationClass};
+ghost use Rattle.av_rules.specs.Steps.Kept.{IsKept};
+
+use jv_types::{ClassId, FramedBody, MethodId};
+use jv_world::World;
+
+/// A world of application and stand-in, the methods whose code is given, the method main, and what was looked up
+/// once in the world.
+#[derive(Drop)]
+pub struct Given<'a> {
+    pub world: &'a World,
+    pub methods: &'a [FramedBody],
+    pub start: MethodId,
+    /// The class of any object of each class, where there is one.
+    pub any: Vec<Option<ClassId>>,
+    pub object: ClassId,
+    ghost kept: { IsKept world.now methods.now start any.items object },
+}
+
+/// Whether a class is one of the application.
+pub fn is_application_class(world: &World, c: ClassId) -> bool
+    ensures { IsTrue result ↔ IsApplicationClass world.now c.number }
+{
+    match world.shapes().get(c.number as usize) {
+        None => false,
+        Some(shape) => shape.application,
+    }
+}
+
+/// The body of a method, where it is among these.
+pub fn body_of(methods: &[FramedBody], m: MethodId) -> Option<&FramedBody>
+    ensures found { IfSome result (λ framed. Contains methods.now framed.now × (framed.now.method ≡ m)) }
+    ensures none { IfNone result ((framed : Framed) → Contains methods.now framed → ¬ (framed.method ≡ m)) }
+{
+    for framed in methods {
+        if framed.method == m {
+            return Some(framed);
+        }
+    }
+    None
+}
