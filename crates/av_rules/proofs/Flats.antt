@@ -1,5 +1,6 @@
 -- Types by a base and as many dimensions.
 use Rattle.std.proofs.Common.{◌≡◌, ◌+◌, ◌<◌, ◌≤◌, ℕ, List, arith, refl, sym, ap, ◌∙◌, subst}
+use Rattle.jv_types.specs.declared.desc.PrimType.{PrimType}
 use Rattle.jv_types.specs.declared.desc.RefType.{RefType, Class, PrimArray, Array, Array', Row_of-RefType, end_of-RefType, more_of-RefType}
 use Rattle.jv_types.specs.declared.ids.ClassId.{ClassId}
 use Rattle.jv_types.specs.declared.label.LibBase.TheVariants as bases
@@ -60,13 +61,33 @@ flat_none w t item got is read none flat of =
     none whole.0 whole.1
 
 -- where its items have 255 dimensions, it is none either
-pub flat_full : (w : List Shape) (t item got : RefType) (inner : FlatType) → AreNumbered w → t ≡ Array item → got ≡ item → IsFlat w got inner → 255 ≤ inner.dims
-    → (flat : FlatType) → IsFlat w t flat → ⊥
-flat_full w t item got inner numbered is read own full flat of =
+pub flat_full : (w : List Shape) (t item got : RefType) (inner : FlatType) → t ≡ Array item → got ≡ item
+    → ((other : FlatType) → IsFlat w got other → other ≡ inner) → 255 ≤ inner.dims → (flat : FlatType) → IsFlat w t flat → ⊥
+flat_full w t item got inner is read one full flat of =
     let whole = item_of_flat w t item got flat is read of in
-    let same : whole.0.dims ≡ inner.dims = ap (λ (f : FlatType). f.dims) (flat_one w numbered got whole.0 inner whole.1 own) in
+    let same : whole.0.dims ≡ inner.dims = ap (λ (f : FlatType). f.dims) (one whole.0 whole.1) in
     let few : whole.0.dims < 255 = whole.2 in
     absurd (omega (arith, few, full, same))
+
+-- and there is one, where there is one for its items
+pub flat_array_one : (w : List Shape) (t item got : RefType) (inner flat : FlatType) → t ≡ Array item → got ≡ item
+    → ((other : FlatType) → IsFlat w got other → other ≡ inner) → flat ≡ array_of inner → (other : FlatType) → IsFlat w t other → other ≡ flat
+flat_array_one w t item got inner flat is read one made other of =
+    let whole = item_of_flat w t item got other is read of in
+    whole.3 ∙ ap array_of (one whole.0 whole.1) ∙ sym made
+
+pub flat_class_one : (w : List Shape) (t : RefType) (name : List ℕ) (c : ClassId) → AreNumbered w → t ≡ Class name → IsNamed w c.number name
+    → (other : FlatType) → IsFlat w t other → other ≡ record { base = bases.Class c; dims = 0 }
+flat_class_one w t name c numbered is named other of =
+    let P : RefType → Type 0 = λ r. IsFlat w r other in
+    let whole : (d : ClassId) × IsNamed w d.number name × (other ≡ record { base = bases.Class d; dims = 0 }) = subst P is of in
+    whole.2 ∙ ap class_flat (numbered.distinct whole.0.number c.number name whole.1 named)
+
+pub flat_prim_one : (w : List Shape) (t : RefType) (prim : PrimType) → t ≡ PrimArray prim
+    → (other : FlatType) → IsFlat w t other → other ≡ record { base = bases.Prim prim; dims = 1 }
+flat_prim_one w t prim is other of =
+    let P : RefType → Type 0 = λ r. IsFlat w r other in
+    subst P is of
 
 -- a class is what its name names
 pub flat_class : (w : List Shape) (t : RefType) (name : List ℕ) (c : ClassId) (flat : FlatType) → t ≡ Class name → IsNamed w c.number name

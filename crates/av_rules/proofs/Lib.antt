@@ -1,4 +1,7 @@
+mod BoundsLemmas
 mod FactSets
 mod Flats
+mod Here
+mod SelectingLemmas
 mod Tables
 mod Types

@@ -120,14 +120,16 @@ IsSeenAs w (bases.Prim prim) base = base ≡ bases.Prim prim
 abbrev pub IsReferenceFlat : FlatType → Type 0
 IsReferenceFlat type = ((c : ClassId) × (type.base ≡ bases.Class c)) ⊎ (0 < type.dims)
 
--- The bound of a label of arrays of references: what may stand in them. It is the type of their items, where a class
--- of any object counts as the class that it stands for. Other labels have none.
-pub record IsBound (p : Program) (label : Label) (bound : FlatType) : Type 0 where
-  pub made : FlatType
-  pub typed : IsTypeOf p label made
+-- What may stand in arrays of the one type is the other: the type of their items, where a class of any object counts as
+-- the class that it stands for. It is a type of references.
+pub record AreItems (w : List Shape) (made bound : FlatType) : Type 0 where
   pub array : made.dims ≡ bound.dims + 1
-  pub seen : IsSeenAs p.world made.base bound.base
+  pub seen : IsSeenAs w made.base bound.base
   pub references : IsReferenceFlat bound
+
+-- The bound of a label: what may stand in its arrays of references. Other labels have none.
+abbrev pub IsBound : Program → Label → FlatType → Type 0
+IsBound p label bound = (made : FlatType) × IsTypeOf p label made × AreItems p.world made bound
 
 -- a label of arrays of references
 abbrev pub HasItems : Program → Label → Type 0

@@ -1,4 +1,5 @@
 -- What private clauses cite.
 pub mod Kept
 pub mod Programs
+pub mod Selecting
 pub mod Tables

@@ -33,6 +33,7 @@ impl FlatType {
 /// It takes no memory.
 pub fn flat_of(world: &World, t: &RefType) -> Option<FlatType>
     ensures found { IfSome result (IsFlat world.now t.now) }
+    ensures one { IfSome result (λ flat. (other : Flat) → IsFlat world.now t.now other → other ≡ flat) }
     ensures none { IfNone result ((flat : Flat) → ¬ IsFlat world.now t.now flat) }
 {
     match t {

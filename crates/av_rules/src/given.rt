@@ -1,10 +1,13 @@
-ghost use Rattle.std.specs.Prelude.{◌≡◌, ◌↔◌, Some, IsTrue, IfSome, IfNone, Contains};
+ghost use Rattle.std.specs.Prelude.{◌≡◌, ◌↔◌, IsTrue, IfOk, IfSome, IfNone, Contains};
 ghost use Rattle.jv_types.specs.declared.frames.FramedBody.{FramedBody as Framed};
+ghost use Rattle.jv_world.specs.Worlds.{object_name, IsNamed};
+ghost use Rattle.av_conditions.specs.Conditions.{MeetConditions};
 ghost use Rattle.av_conditions.specs.Initialisers.{IsApplicationClass};
 ghost use Rattle.av_rules.specs.Steps.Kept.{IsKept};
 
-use jv_types::{ClassId, FramedBody, MethodId};
+use jv_types::{ClassId, FramedBody, MethodId, Name};
 use jv_world::World;
+use std::alloc::{AllocError, Global};
 
 /// A world of application and stand-in, the methods whose code is given, the method main, and what was looked up
 /// once in the world.
@@ -40,4 +43,20 @@ pub fn body_of(methods: &[FramedBody], m: MethodId) -> Option<&FramedBody>
         }
     }
     None
+}
+
+/// The class Object of a world that has it. Only memory can be wanting.
+pub fn object_class(
+    alloc: Global,
+    world: &World,
+    methods: &[FramedBody],
+) -> Result<ClassId, AllocError>
+    requires { MeetConditions world.now methods.now }
+    ensures { IfOk result (λ c. IsNamed world.now c.number object_name) }
+{
+    let name = Name::from_slice(alloc, b"java/lang/Object")?;
+    match world.class(&name) {
+        Some(c) => Ok(c),
+        None => unreachable!(),
+    }
 }

@@ -2,13 +2,17 @@
 #![tactic(auto)]
 
 mod any_classes;
+mod app_rules;
+mod bounds;
 mod flat_type;
 mod given;
 mod labels;
 mod laws;
 mod making;
+mod selecting;
 
-pub use flat_type::{FlatType, flat_of};
+pub use app_rules::AppRules;
+pub use flat_type::FlatType;
 pub use laws::{
     closed_sets_know_the_uncaught, closed_sets_meet, least_facts_are_one, worklist_sets_are_least,
 };
