@@ -10,14 +10,19 @@ use Rattle.jv_types.specs.declared.label.LibBase.TheVariants as bases
 use Rattle.jv_types.specs.declared.shapes.Shape.{Shape}
 use Rattle.jv_world.specs.Instances.{IsBaseHere}
 use Rattle.jv_world.specs.Worlds.{AreNumbered, IsNamed}
-use Rattle.jv_world.proofs.NamesFound.{same_name}
 use Rattle.av_conditions.specs.StandIn.{any_name}
 use Rattle.av_rules.specs.declared.flat_type.FlatType.{FlatType}
-use Rattle.av_rules.specs.Labels.{AreItems, IsBound, IsSeenAs, IsTypeOf, MayStandIn, PassesFlat}
+use Rattle.av_rules.specs.Labels.{AreItems, IsBound, IsReferenceFlat, IsSeenAs, IsTypeOf, MayStandIn, PassesFlat}
 use Rattle.av_rules.specs.Program.{Program}
 use Rattle.av_rules.specs.StandInClasses.{IsAnyClass, IsAnyClassOf}
 use Rattle.av_rules.proofs.Here.{seen_here, type_here}
 use Rattle.av_rules.proofs.Types.{AreDistinct, type_one}
+
+-- a class has one name
+same_name : (w : List Shape) (c : ℕ) (name other : List ℕ) → IsNamed w c name → IsNamed w c other → name ≡ other
+same_name w c name other x y =
+    let same : x.0 ≡ y.0 = same_Some x.0 y.0 (sym x.1 ∙ y.1) in
+    sym x.2 ∙ ap (λ (s : Shape). s.name) same ∙ y.2
 
 -- a class of any object stands for one class
 pub stood_one : (w : List Shape) (c d any : ℕ) → AreNumbered w → IsAnyClassOf w c any → IsAnyClassOf w d any → c ≡ d
@@ -49,6 +54,33 @@ items_one w made a b numbered x y =
     let base : a.base ≡ b.base = seen_one w made.base a.base b.base numbered x.seen y.seen in
     let dims : a.dims ≡ b.dims = omega (arith, x.array, y.array) in
     ap (λ (l : LibBase). record { base = l; dims = a.dims }) base ∙ ap (λ (d : ℕ). record { base = b.base; dims = d }) dims
+
+-- what is no item of a type without dimensions
+pub none_of_flat : (w : List Shape) (made bound : FlatType) → made.dims ≡ 0 → AreItems w made bound → ⊥
+none_of_flat w made bound flat x = absurd (omega (arith, x.array, flat))
+
+-- what may stand there is seen from the items
+pub items_by : (w : List Shape) (made item bound : FlatType) → item.base ≡ made.base → made.dims ≡ item.dims + 1 → bound.dims ≡ item.dims
+    → IsSeenAs w item.base bound.base → IsReferenceFlat bound → AreItems w made bound
+items_by w made item bound base more dims seen references = record {
+  array = omega (arith, more, dims);
+  seen = subst (λ (l : LibBase). IsSeenAs w l bound.base) base seen;
+  references = references;
+}
+
+-- and the other way round
+pub seen_by : (w : List Shape) (made item bound : FlatType) → item.base ≡ made.base → made.dims ≡ item.dims + 1 → AreItems w made bound
+    → (bound.dims ≡ item.dims) × IsSeenAs w item.base bound.base × IsReferenceFlat bound
+seen_by w made item bound base more x =
+    (omega (arith, x.array, more), subst (λ (l : LibBase). IsSeenAs w l bound.base) (sym base) x.seen, x.references)
+
+-- what is seen of an item is one
+pub seen_item_one : (w : List Shape) (item seen bound : FlatType) → AreNumbered w → IsSeenAs w item.base seen.base → seen.dims ≡ item.dims
+    → bound.dims ≡ item.dims → IsSeenAs w item.base bound.base → bound ≡ seen
+seen_item_one w item seen bound numbered is dims others other =
+    let base : bound.base ≡ seen.base = seen_one w item.base bound.base seen.base numbered other is in
+    let more : bound.dims ≡ seen.dims = omega (arith, dims, others) in
+    ap (λ (l : LibBase). record { base = l; dims = bound.dims }) base ∙ ap (λ (d : ℕ). record { base = seen.base; dims = d }) more
 
 pub bound_one : (p : Program) (label : Label) (a b : FlatType) → AreNumbered p.world → AreDistinct p.methods → IsBound p label a → IsBound p label b → a ≡ b
 bound_one p label a b numbered distinct x y =

@@ -1,5 +1,5 @@
 -- The classes of types are classes of the world.
-use Rattle.std.proofs.Common.{◌≡◌, ◌<◌, ℕ, List, length, Option, Some, slice_get, sym, ap, subst, ⊎_elim}
+use Rattle.std.proofs.Common.{◌≡◌, ◌+◌, ◌<◌, ℕ, List, length, Option, Some, slice_get, sym, ap, subst, ⊎_elim}
 use Rattle.std.proofs.lemmas.Option.{slice_get_within}
 use Rattle.jv_types.specs.declared.desc.RefType.{RefType, Class, PrimArray, Array', Row_of-RefType, end_of-RefType, more_of-RefType}
 use Rattle.jv_types.specs.declared.desc.RefType as types
@@ -12,7 +12,7 @@ use Rattle.jv_types.specs.declared.label.LibBase.{LibBase}
 use Rattle.jv_types.specs.declared.label.LibBase.TheVariants as bases
 use Rattle.jv_types.specs.declared.shapes.Shape.{Shape}
 use Rattle.jv_world.specs.Instances.{IsBaseHere}
-use Rattle.jv_world.proofs.Subtypes.{IsNamed-below}
+use Rattle.jv_resolve.proofs.Hierarchy.{named_here}
 use Rattle.av_conditions.specs.StandIn.{any_name}
 use Rattle.av_rules.specs.declared.flat_type.FlatType.{FlatType}
 use Rattle.av_rules.specs.FlatTypes.{IsFlat, IsFlatArray}
@@ -29,7 +29,7 @@ base_here w a b is here = same_here w a.base b.base (ap (λ (f : FlatType). f.ba
 
 mutual
   pub flat_here : (w : List Shape) (t : RefType) (flat : FlatType) → IsFlat w t flat → IsBaseHere w flat.base
-  flat_here w (Class name) flat x = base_here w flat (record { base = bases.Class x.0; dims = 0 }) x.2 (IsNamed-below w x.0.number name x.1)
+  flat_here w (Class name) flat x = base_here w flat (record { base = bases.Class x.0; dims = 0 }) x.2 (named_here w x.0.number name x.1)
   flat_here w (PrimArray prim) flat x = base_here w flat (record { base = bases.Prim prim; dims = 1 }) x tt
   flat_here w (Array' shape items) flat x = items_here w items flat x
 
@@ -39,7 +39,7 @@ mutual
       base_here w flat (record { base = x.0.base; dims = x.0.dims + 1 }) x.3 (flat_here w item x.0 x.1)
 
 pub any_here : (w : List Shape) (c any : ℕ) → IsAnyClassOf w c any → any < length w
-any_here w c any x = IsNamed-below w any (any_name x.0.name) x.2
+any_here w c any x = named_here w any (any_name x.0.name) x.2
 
 pub class_here : (w : List Shape) (c any : ℕ) → IsAnyClassOf w c any → c < length w
 class_here w c any x = slice_get_within w c x.0 x.1.place

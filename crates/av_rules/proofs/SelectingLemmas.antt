@@ -1,18 +1,21 @@
 -- What a label selects.
-use Rattle.std.proofs.Common.{◌≡◌, ◌<◌, ℕ, Bool, List, refl, sym, ap, ◌∙◌, subst, inl, arith}
+use Rattle.std.proofs.Common.{◌≡◌, ◌+◌, ◌<◌, ℕ, Bool, true, false, List, refl, sym, ap, ◌∙◌, subst, inl, arith}
+use Rattle.std.proofs.lemmas.Bool.{false≢true}
+use Rattle.jv_types.specs.declared.desc.PrimType.{PrimType}
 use Rattle.jv_types.specs.declared.ids.ClassId.{ClassId}
 use Rattle.jv_types.specs.declared.ids.MethodId.{MethodId}
 use Rattle.jv_types.specs.declared.label.Label.{Label}
-use Rattle.jv_types.specs.declared.label.Label.TheVariants.{Lib}
+use Rattle.jv_types.specs.declared.label.Label.TheVariants.{Lib, Site}
 use Rattle.jv_types.specs.declared.label.LibBase.{LibBase}
 use Rattle.jv_types.specs.declared.label.LibBase.TheVariants as bases
+use Rattle.jv_types.specs.declared.shapes.Shape.{Shape}
 use Rattle.jv_world.specs.Worlds.{AreNumbered, IsNamed, object_name}
 use Rattle.av_rules.specs.declared.flat_type.FlatType.{FlatType}
 use Rattle.av_rules.specs.Dispatching.{LabelSelects, on_class, on_array, instead, SelectsNone, SelectsOn}
 use Rattle.av_rules.specs.Labels.{IsTypeOf}
 use Rattle.av_rules.specs.Program.{Program}
 use Rattle.av_rules.specs.StandInClasses.{IsAnyClassOf}
-use Rattle.av_rules.specs.Steps.Selecting.{SelectsInstead}
+use Rattle.av_rules.specs.Steps.Selecting.{SelectsInstead, SelectsOpen}
 use Rattle.av_rules.proofs.Types.{AreDistinct, type_one}
 
 -- the type of a class itself
@@ -53,6 +56,27 @@ same_class : (a b : ClassId) → bases.Class a ≡ bases.Class b → a ≡ b
 unfolding class_in
 same_class a b e = ap (λ (l : LibBase). class_in l a) e
 
+-- a class is no primitive type
+is_class : LibBase → Bool
+is_class (bases.Class c) = true
+is_class (bases.Prim prim) = false
+
+no_class : (c : ClassId) (prim : PrimType) → bases.Class c ≡ bases.Prim prim → ⊥
+unfolding is_class
+no_class c prim e = false≢true (sym (ap is_class e))
+
+abbrev flat_class : ClassId → ℕ → FlatType
+flat_class c dims = record { base = bases.Class c; dims = dims }
+
+-- the base of a label of the library
+base_in : LibBase → Label → LibBase
+base_in other (Site m pc depth) = other
+base_in other (Lib base dims) = base
+
+same_label : (a b : ClassId) → Lib (bases.Class a) 0 ≡ Lib (bases.Class b) 0 → a ≡ b
+unfolding base_in
+same_label a b e = same_class a b (ap (base_in (bases.Class a)) e)
+
 class_of_type : (p : Program) (label : Label) (a b : ClassId) → AreNumbered p.world → AreDistinct p.methods → IsTypeOf p label (record { base = bases.Class a; dims = 0 })
     → IsTypeOf p label (record { base = bases.Class b; dims = 0 }) → a ≡ b
 class_of_type p label a b numbered distinct x y =
@@ -89,3 +113,27 @@ prim_selects_none p interface label resolved m made numbered distinct typed flat
     absurd (omega (arith, same, array, flat))
 prim_selects_none p interface label resolved m made numbered distinct typed flat prim (instead c any is stands nothing selects) =
     prim (record { number = any }) (ap (λ (f : FlatType). f.base) (type_one p label made (class_type any) numbered distinct typed (any_typed p label c any is stands)))
+
+-- a base that is primitive
+pub prim_base_selects_none : (p : Program) (interface : Bool) (label : Label) (resolved m : MethodId) (made : FlatType) (prim : PrimType) → AreNumbered p.world → AreDistinct p.methods
+    → IsTypeOf p label made → made.dims ≡ 0 → made.base ≡ bases.Prim prim → LabelSelects p interface label resolved m → ⊥
+prim_base_selects_none p interface label resolved m made prim numbered distinct typed flat is =
+    prim_selects_none p interface label resolved m made numbered distinct typed flat (λ c e. no_class c prim (sym e ∙ is))
+
+-- a type without dimensions is its class
+pub typed_flat : (p : Program) (label : Label) (made : FlatType) (own : ClassId) → IsTypeOf p label made → made.base ≡ bases.Class own → made.dims ≡ 0
+    → IsTypeOf p label (record { base = bases.Class own; dims = 0 })
+typed_flat p label made own typed is flat =
+    let base : made ≡ record { base = bases.Class own; dims = made.dims } = ap (λ (l : LibBase). record { base = l; dims = made.dims }) is in
+    let dims : record { base = bases.Class own; dims = made.dims } ≡ record { base = bases.Class own; dims = 0 } = ap (flat_class own) flat in
+    subst (IsTypeOf p label) (base ∙ dims) typed
+
+pub some_dims : (dims inner : ℕ) → dims ≡ inner + 1 → 0 < dims
+some_dims dims inner is = omega (arith, is)
+
+-- what is selected instead, by the class of the label
+pub open_of : (w : List Shape) (interface : Bool) (label : Label) (d : ClassId) (resolved m : MethodId) → label ≡ Lib (bases.Class d) 0
+    → SelectsInstead w interface label resolved m → SelectsOpen w interface d resolved m
+open_of w interface label d resolved m is x =
+    let same : x.0 ≡ d = same_label x.0 d (sym x.2 ∙ is) in
+    subst (λ (c : ClassId). SelectsOpen w interface c resolved m) same (x.1, x.3, x.4)

@@ -1,5 +1,5 @@
 ghost use Rattle.std.specs.Prelude.{◌≡◌, ◌<◌, ◌↔◌, ℕ, false, Some, length, slice_get, IsTrue, IfOk, IfSome, IfNone};
-ghost use Rattle.jv_world.specs.Worlds.{IsFinal, IsInterface};
+ghost use Rattle.jv_world.specs.Worlds.{IsFinal, IsInterface, IsWorld};
 ghost use Rattle.av_conditions.specs.StandIn.{any_name};
 ghost use Rattle.av_rules.specs.StandInClasses.{IsAnyClassOf};
 ghost use Rattle.av_rules.specs.Steps.Tables.{AreOfEach, SaysAny};
@@ -39,7 +39,8 @@ fn any_class_of(alloc: Global, world: &World, c: ClassId) -> Result<Option<Class
 
 /// The class of any object of each class of a world, where there is one. Only memory can be wanting.
 pub fn any_classes(alloc: Global, world: &World) -> Result<Vec<Option<ClassId>>, AllocError>
-    ensures { IfOk result (λ found. AreOfEach (SaysAny world.now) (length world.now) found.items) }
+    ensures found { IfOk result (λ found. AreOfEach (SaysAny world.now) (length world.now) found.items) }
+    ensures world { IsWorld world.now }
 {
     let count = world.shapes().len();
     let mut found = Vec::with_capacity(alloc, count)?;
@@ -47,7 +48,8 @@ pub fn any_classes(alloc: Global, world: &World) -> Result<Vec<Option<ClassId>>,
         let class = ClassId {
             number: number as u32,
         };
-        found.push(any_class_of(alloc, world, class)?)?;
+        let any = any_class_of(alloc, world, class)?;
+        found.push(any)?;
     }
     Ok(found)
 }

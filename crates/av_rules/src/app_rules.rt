@@ -22,12 +22,19 @@ pub struct AppRules<'a> {
 }
 
 impl<'a> Model for AppRules<'a> {
+    ghost use Rattle.std.specs.Coded.{codes};
+    ghost use Rattle.jv_types.specs.contracts.frames.FramedBody as framed_body;
+    ghost use Rattle.jv_types.specs.contracts.shapes.Shape as shape;
     ghost use Rattle.av_rules.specs.Program.{Program};
-    ghost use Rattle.av_rules.specs.Steps.Programs.{program_of};
+    ghost use Rattle.av_rules.specs.Steps.Programs.{IsKeptIn, program_of};
 
     ghost Value = { Program };
 
+    ghost coded = { Prim.hlevel (codes, shape.the_row.coded, framed_body.the_row.coded) };
+
     ghost view = { λ rules. program_of rules.given };
+
+    ghost invariant = { λ rules. IsKeptIn rules.given };
 }
 
 impl<'a> AppRules<'a> {

@@ -1,6 +1,7 @@
-ghost use Rattle.std.specs.Prelude.{◌≡◌, ◌+◌, ◌<◌, ◌≤◌, IfSome, IfNone};
+ghost use Rattle.std.specs.Prelude.{◌≡◌, ◌+◌, ◌<◌, ◌≤◌, ◌↔◌, IsTrue, IfSome, IfNone};
 ghost use Rattle.av_rules.specs.declared.flat_type.FlatType.{FlatType as Flat};
 ghost use Rattle.av_rules.specs.FlatTypes.{IsFlat};
+ghost use Rattle.av_rules.specs.Labels.{IsReferenceFlat};
 
 use jv_types::{LibBase, RefType};
 use jv_world::World;
@@ -15,7 +16,7 @@ pub struct FlatType {
 
 impl FlatType {
     /// The type of arrays of this one, where it has fewer than 255 dimensions.
-    fn array(self) -> Option<FlatType>
+    pub(crate) fn array(self) -> Option<FlatType>
         ensures found { IfSome result (λ made. (self.dims < 255) × (made ≡ record { base = self.base; dims = self.dims + 1 })) }
         ensures none { IfNone result (255 ≤ self.dims) }
     {
@@ -26,6 +27,60 @@ impl FlatType {
                 dims,
             }),
         }
+    }
+
+    /// The type of the items of this one, where it is an array.
+    pub(crate) fn item(self) -> Option<FlatType>
+        ensures found { IfSome result (λ item. (item.base ≡ self.base) × (self.dims ≡ item.dims + 1)) }
+        ensures none { IfNone result (self.dims ≡ 0) }
+    {
+        match self.dims.checked_sub(1) {
+            None => None,
+            Some(dims) => Some(FlatType {
+                base: self.base,
+                dims,
+            }),
+        }
+    }
+
+    /// The type of the arrays that have so many arrays of this one around.
+    pub(crate) fn inside(self, depth: u8) -> Option<FlatType>
+        ensures found { IfSome result (λ made. (made.base ≡ self.base) × (made.dims + depth ≡ self.dims)) }
+        ensures none { IfNone result (self.dims < depth) }
+    {
+        match self.dims.checked_sub(depth) {
+            None => None,
+            Some(dims) => Some(FlatType {
+                base: self.base,
+                dims,
+            }),
+        }
+    }
+
+    /// This type, where it is no array.
+    pub(crate) fn no_array(self) -> Option<FlatType>
+        ensures found { IfSome result (λ made. (made ≡ self) × (self.dims ≡ 0)) }
+        ensures none { IfNone result (¬ (self.dims ≡ 0)) }
+    {
+        if self.dims == 0 { Some(self) } else { None }
+    }
+
+    /// This type, where it is one of references: a class, or an array.
+    pub(crate) fn of_references(self) -> Option<FlatType>
+        ensures found { IfSome result (λ made. (made ≡ self) × IsReferenceFlat self) }
+        ensures none { IfNone result (¬ IsReferenceFlat self) }
+    {
+        if is_reference(self) { Some(self) } else { None }
+    }
+}
+
+/// Whether a type is one of references: a class, or an array.
+fn is_reference(t: FlatType) -> bool
+    ensures { IsTrue result ↔ IsReferenceFlat t }
+{
+    match t.base {
+        LibBase::Class(_) => true,
+        LibBase::Prim(_) => t.dims > 0,
     }
 }
 

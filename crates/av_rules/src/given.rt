@@ -3,7 +3,6 @@ ghost use Rattle.jv_types.specs.declared.frames.FramedBody.{FramedBody as Framed
 ghost use Rattle.jv_world.specs.Worlds.{object_name, IsNamed};
 ghost use Rattle.av_conditions.specs.Conditions.{MeetConditions};
 ghost use Rattle.av_conditions.specs.Initialisers.{IsApplicationClass};
-ghost use Rattle.av_rules.specs.Steps.Kept.{IsKept};
 
 use jv_types::{ClassId, FramedBody, MethodId, Name};
 use jv_world::World;
@@ -19,7 +18,6 @@ pub struct Given<'a> {
     /// The class of any object of each class, where there is one.
     pub any: Vec<Option<ClassId>>,
     pub object: ClassId,
-    ghost kept: { IsKept world.now methods.now start any.items object },
 }
 
 /// Whether a class is one of the application.

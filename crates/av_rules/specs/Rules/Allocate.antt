@@ -16,6 +16,10 @@ pub data MakesAt (p : Program) (at : Point) (place : Place) (label : Label) : Ty
   pushed : IsLabelAt p at 0 label → IsPushed at place → MakesAt p at place label
   inner : (depth : ℕ) (outer : Label) → IsLabelAt p at depth outer → IsLabelAt p at (depth + 1) label → place ≡ places.Elem outer → MakesAt p at place label
 
+-- what follows at a program point
+abbrev pub AllocateAt : Program → Point → Premises Fact → Fact → Type 0
+AllocateAt p at (One (facts.Reach m)) (facts.Pt place label) = (method_of at ≡ m) × MakesAt p at place label
+AllocateAt p at _ _ = ⊥
+
 abbrev pub Allocate : Program → Premises Fact → Fact → Type 0
-Allocate p (One (facts.Reach m)) (facts.Pt place label) = (at : Point) × IsPoint p at × (method_of at ≡ m) × MakesAt p at place label
-Allocate p _ _ = ⊥
+Allocate p premises fact = (at : Point) × IsPoint p at × AllocateAt p at premises fact

@@ -26,7 +26,11 @@ pub record PassesWord (p : Program) (at : Point) (t : MethodId) (from to : Place
   pub source : from ≡ stack_place at (lowest_word at + word)
   pub parameter : IsEntryLocal p t word to
 
+-- what follows at a program point
+abbrev pub ArgumentAt : Program → Point → Premises Fact → Fact → Type 0
+ArgumentAt p at (Two (facts.Edge origin t) (facts.Pt from label)) (facts.Pt to gone) =
+    (origin ≡ site_of at) × PassesWord p at t from to × (gone ≡ label)
+ArgumentAt p at _ _ = ⊥
+
 abbrev pub Argument : Program → Premises Fact → Fact → Type 0
-Argument p (Two (facts.Edge origin t) (facts.Pt from label)) (facts.Pt to gone) =
-    (at : Point) × IsPoint p at × (origin ≡ site_of at) × PassesWord p at t from to × (gone ≡ label)
-Argument p _ _ = ⊥
+Argument p premises fact = (at : Point) × IsPoint p at × ArgumentAt p at premises fact

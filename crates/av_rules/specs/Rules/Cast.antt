@@ -20,6 +20,10 @@ pub record Casts (p : Program) (at : Point) (from to : Place) (label : Label) : 
   pub passes : Passes p label type
   pub pushed : IsPushed at to
 
+-- what follows at a program point
+abbrev pub CastAt : Program → Point → Premises Fact → Fact → Type 0
+CastAt p at (One (facts.Pt from label)) (facts.Pt to cast) = Casts p at from to label × (cast ≡ label)
+CastAt p at _ _ = ⊥
+
 abbrev pub Cast : Program → Premises Fact → Fact → Type 0
-Cast p (One (facts.Pt from label)) (facts.Pt to cast) = (at : Point) × IsPoint p at × Casts p at from to label × (cast ≡ label)
-Cast p _ _ = ⊥
+Cast p premises fact = (at : Point) × IsPoint p at × CastAt p at premises fact

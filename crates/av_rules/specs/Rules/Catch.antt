@@ -32,7 +32,11 @@ pub data GoesAsThrown (p : Program) (at : Point) (label : Label) (to : Place) : 
       → to ≡ places.Stack (method_of at) handler.target 0 → GoesAsThrown p at label to
   leaves : NoneIn (Matches p at.pc label) at.framed.body.handlers → to ≡ places.Thr (method_of at) → GoesAsThrown p at label to
 
+-- what follows at a program point
+abbrev pub CatchAt : Program → Point → Premises Fact → Fact → Type 0
+CatchAt p at (One (facts.Pt from label)) (facts.Pt to gone) =
+    (from ≡ raise_place at) × GoesAsThrown p at label to × (gone ≡ label)
+CatchAt p at _ _ = ⊥
+
 abbrev pub Catch : Program → Premises Fact → Fact → Type 0
-Catch p (One (facts.Pt from label)) (facts.Pt to gone) =
-    (at : Point) × IsPoint p at × (from ≡ raise_place at) × GoesAsThrown p at label to × (gone ≡ label)
-Catch p _ _ = ⊥
+Catch p premises fact = (at : Point) × IsPoint p at × CatchAt p at premises fact

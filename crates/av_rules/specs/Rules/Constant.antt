@@ -29,7 +29,11 @@ Loads w (Loaded constant) label =
     (name : List ℕ) × (c : ClassId) × (constant_class constant ≡ Some name) × IsNamed w c.number name × (label ≡ Lib (bases.Class c) 0)
 Loads w _ label = ⊥
 
+-- what follows at a program point
+abbrev pub ConstantAt : Program → Point → Premises Fact → Fact → Type 0
+ConstantAt p at (One (facts.Reach m)) (facts.Pt place label) =
+    (method_of at ≡ m) × Loads p.world at.insn.arg label × IsPushed at place
+ConstantAt p at _ _ = ⊥
+
 abbrev pub Constant : Program → Premises Fact → Fact → Type 0
-Constant p (One (facts.Reach m)) (facts.Pt place label) =
-    (at : Point) × IsPoint p at × (method_of at ≡ m) × Loads p.world at.insn.arg label × IsPushed at place
-Constant p _ _ = ⊥
+Constant p premises fact = (at : Point) × IsPoint p at × ConstantAt p at premises fact

@@ -24,9 +24,13 @@ pub record CallsOn (p : Program) (at : Point) (receiver : Place) (label : Label)
   pub place : receiver ≡ stack_place at (lowest_word at)
   pub runs : Runs p at label t
 
+-- what follows at a program point
+abbrev pub DispatchAt : Program → Point → Premises Fact → Fact → Type 0
+DispatchAt p at (One (facts.Reach m)) (facts.Edge from t) = (method_of at ≡ m) × CallsStatic p at from t
+DispatchAt p at (One (facts.Pt receiver label)) (facts.Edge from t) = CallsOn p at receiver label t × (from ≡ site_of at)
+DispatchAt p at (One (facts.Pt receiver label)) (facts.Pt to gone) =
+    (t : MethodId) × CallsOn p at receiver label t × IsEntryLocal p t 0 to × (gone ≡ label)
+DispatchAt p at _ _ = ⊥
+
 abbrev pub Dispatch : Program → Premises Fact → Fact → Type 0
-Dispatch p (One (facts.Reach m)) (facts.Edge from t) = (at : Point) × IsPoint p at × (method_of at ≡ m) × CallsStatic p at from t
-Dispatch p (One (facts.Pt receiver label)) (facts.Edge from t) = (at : Point) × IsPoint p at × CallsOn p at receiver label t × (from ≡ site_of at)
-Dispatch p (One (facts.Pt receiver label)) (facts.Pt to gone) =
-    (at : Point) × (t : MethodId) × IsPoint p at × CallsOn p at receiver label t × IsEntryLocal p t 0 to × (gone ≡ label)
-Dispatch p _ _ = ⊥
+Dispatch p premises fact = (at : Point) × IsPoint p at × DispatchAt p at premises fact

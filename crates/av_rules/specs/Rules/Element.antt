@@ -29,7 +29,11 @@ pub record PutsItem (p : Program) (at : Point) (array : Place) (label : Label) (
   pub fits : MayStandIn p item label
   pub item_place : to ≡ places.Elem label
 
+-- what follows at a program point
+abbrev pub ElementAt : Program → Point → Premises Fact → Fact → Type 0
+ElementAt p at (Two (facts.Pt array label) (facts.Pt from item)) (facts.Pt to gone) =
+    (GetsItem p at array label from to ⊎ PutsItem p at array label from item to) × (gone ≡ item)
+ElementAt p at _ _ = ⊥
+
 abbrev pub Element : Program → Premises Fact → Fact → Type 0
-Element p (Two (facts.Pt array label) (facts.Pt from item)) (facts.Pt to gone) =
-    (at : Point) × IsPoint p at × (GetsItem p at array label from to ⊎ PutsItem p at array label from item to) × (gone ≡ item)
-Element p _ _ = ⊥
+Element p premises fact = (at : Point) × IsPoint p at × ElementAt p at premises fact

@@ -31,7 +31,11 @@ pub record PutsField (p : Program) (at : Point) (object : Place) (label : Label)
   pub value_place : value ≡ stack_place at (lowest_word at + 1)
   pub field_place : to ≡ places.Field label field
 
+-- what follows at a program point
+abbrev pub FieldAt : Program → Point → Premises Fact → Fact → Type 0
+FieldAt p at (Two (facts.Pt object label) (facts.Pt from held)) (facts.Pt to gone) =
+    (GetsField p at object label from to ⊎ PutsField p at object label from to) × (gone ≡ held)
+FieldAt p at _ _ = ⊥
+
 abbrev pub Field : Program → Premises Fact → Fact → Type 0
-Field p (Two (facts.Pt object label) (facts.Pt from held)) (facts.Pt to gone) =
-    (at : Point) × IsPoint p at × (GetsField p at object label from to ⊎ PutsField p at object label from to) × (gone ≡ held)
-Field p _ _ = ⊥
+Field p premises fact = (at : Point) × IsPoint p at × FieldAt p at premises fact

@@ -7,7 +7,11 @@ use Rattle.jv_types.specs.declared.fact.Fact.TheVariants as facts
 use Rattle.av_conditions.specs.Initialisers.{MayEnter}
 use Rattle.av_rules.specs.Program.{Program, Point, IsPoint, method_of, site_of}
 
+-- what follows at a program point
+abbrev pub InitialiseAt : Program → Point → Premises Fact → Fact → Type 0
+InitialiseAt p at (One (facts.Reach m)) (facts.Edge from c) =
+    (method_of at ≡ m) × MayEnter p.world at.insn c × (from ≡ site_of at)
+InitialiseAt p at _ _ = ⊥
+
 abbrev pub Initialise : Program → Premises Fact → Fact → Type 0
-Initialise p (One (facts.Reach m)) (facts.Edge from c) =
-    (at : Point) × IsPoint p at × (method_of at ≡ m) × MayEnter p.world at.insn c × (from ≡ site_of at)
-Initialise p _ _ = ⊥
+Initialise p premises fact = (at : Point) × IsPoint p at × InitialiseAt p at premises fact

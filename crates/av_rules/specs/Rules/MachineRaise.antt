@@ -18,7 +18,11 @@ abbrev pub IsThrownByMachine : Program → Label → Type 0
 IsThrownByMachine p label =
     (c : ClassId) × IsCollected p.world c.number × IsThrowable p.world c.number × (label ≡ Lib (bases.Class c) 0)
 
+-- what follows at a program point
+abbrev pub MachineRaiseAt : Program → Point → Premises Fact → Fact → Type 0
+MachineRaiseAt p at (One (facts.Reach m)) (facts.Pt to label) =
+    (method_of at ≡ m) × (to ≡ raise_place at) × IsThrownByMachine p label
+MachineRaiseAt p at _ _ = ⊥
+
 abbrev pub MachineRaise : Program → Premises Fact → Fact → Type 0
-MachineRaise p (One (facts.Reach m)) (facts.Pt to label) =
-    (at : Point) × IsPoint p at × (method_of at ≡ m) × (to ≡ raise_place at) × IsThrownByMachine p label
-MachineRaise p _ _ = ⊥
+MachineRaise p premises fact = (at : Point) × IsPoint p at × MachineRaiseAt p at premises fact

@@ -17,6 +17,10 @@ pub data LeavesWord (at : Point) (from to : Place) : Type 0 where
   caught : (handler : Handler) (local : ℕ) → Contains at.framed.body.handlers handler → Covers handler at.pc → IsSlot at.framed handler.target (AtLocal local)
       → from ≡ place_of (method_of at) at.pc (AtLocal local) → to ≡ place_of (method_of at) handler.target (AtLocal local) → LeavesWord at from to
 
+-- what follows at a program point
+abbrev pub MoveAt : Program → Point → Premises Fact → Fact → Type 0
+MoveAt p at (One (facts.Pt from label)) (facts.Pt to moved) = LeavesWord at from to × (moved ≡ label)
+MoveAt p at _ _ = ⊥
+
 abbrev pub Move : Program → Premises Fact → Fact → Type 0
-Move p (One (facts.Pt from label)) (facts.Pt to moved) = (at : Point) × IsPoint p at × LeavesWord at from to × (moved ≡ label)
-Move p _ _ = ⊥
+Move p premises fact = (at : Point) × IsPoint p at × MoveAt p at premises fact

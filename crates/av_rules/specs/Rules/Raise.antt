@@ -21,9 +21,13 @@ pub record ThrowsWord (p : Program) (at : Point) (from : Place) (label : Label) 
   pub source : from ≡ stack_place at (lowest_word at)
   pub throwable : Passes p label throwable_type
 
+-- what follows at a program point
+abbrev pub RaiseAt : Program → Point → Premises Fact → Fact → Type 0
+RaiseAt p at (One (facts.Pt from label)) (facts.Pt to gone) =
+    ThrowsWord p at from label × (to ≡ raise_place at) × (gone ≡ label)
+RaiseAt p at (Two (facts.Edge origin t) (facts.Pt from label)) (facts.Pt to gone) =
+    (origin ≡ site_of at) × (from ≡ places.Thr t) × (to ≡ raise_place at) × (gone ≡ label)
+RaiseAt p at _ _ = ⊥
+
 abbrev pub Raise : Program → Premises Fact → Fact → Type 0
-Raise p (One (facts.Pt from label)) (facts.Pt to gone) =
-    (at : Point) × IsPoint p at × ThrowsWord p at from label × (to ≡ raise_place at) × (gone ≡ label)
-Raise p (Two (facts.Edge origin t) (facts.Pt from label)) (facts.Pt to gone) =
-    (at : Point) × IsPoint p at × (origin ≡ site_of at) × (from ≡ places.Thr t) × (to ≡ raise_place at) × (gone ≡ label)
-Raise p _ _ = ⊥
+Raise p premises fact = (at : Point) × IsPoint p at × RaiseAt p at premises fact

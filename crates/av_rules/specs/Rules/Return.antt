@@ -23,8 +23,12 @@ pub record PushesResult (p : Program) (at : Point) (t : MethodId) (from to : Pla
   pub returned : from ≡ places.Ret t
   pub pushed : IsPushed at to
 
+-- what follows at a program point
+abbrev pub ReturnAt : Program → Point → Premises Fact → Fact → Type 0
+ReturnAt p at (One (facts.Pt from label)) (facts.Pt to gone) = ReturnsWord at from to × (gone ≡ label)
+ReturnAt p at (Two (facts.Edge origin t) (facts.Pt from label)) (facts.Pt to gone) =
+    (origin ≡ site_of at) × PushesResult p at t from to × (gone ≡ label)
+ReturnAt p at _ _ = ⊥
+
 abbrev pub Return : Program → Premises Fact → Fact → Type 0
-Return p (One (facts.Pt from label)) (facts.Pt to gone) = (at : Point) × IsPoint p at × ReturnsWord at from to × (gone ≡ label)
-Return p (Two (facts.Edge origin t) (facts.Pt from label)) (facts.Pt to gone) =
-    (at : Point) × IsPoint p at × (origin ≡ site_of at) × PushesResult p at t from to × (gone ≡ label)
-Return p _ _ = ⊥
+Return p premises fact = (at : Point) × IsPoint p at × ReturnAt p at premises fact

@@ -27,8 +27,12 @@ pub record PutsStatic (p : Program) (at : Point) (from to : Place) : Type 0 wher
   pub source : from ≡ stack_place at (lowest_word at)
   pub field_place : to ≡ places.Static field
 
+-- what follows at a program point
+abbrev pub StaticAt : Program → Point → Premises Fact → Fact → Type 0
+StaticAt p at (Two (facts.Reach m) (facts.Pt from label)) (facts.Pt to gone) =
+    (method_of at ≡ m) × GetsStatic p at from to × (gone ≡ label)
+StaticAt p at (One (facts.Pt from label)) (facts.Pt to gone) = PutsStatic p at from to × (gone ≡ label)
+StaticAt p at _ _ = ⊥
+
 abbrev pub Static : Program → Premises Fact → Fact → Type 0
-Static p (Two (facts.Reach m) (facts.Pt from label)) (facts.Pt to gone) =
-    (at : Point) × IsPoint p at × (method_of at ≡ m) × GetsStatic p at from to × (gone ≡ label)
-Static p (One (facts.Pt from label)) (facts.Pt to gone) = (at : Point) × IsPoint p at × PutsStatic p at from to × (gone ≡ label)
-Static p _ _ = ⊥
+Static p premises fact = (at : Point) × IsPoint p at × StaticAt p at premises fact

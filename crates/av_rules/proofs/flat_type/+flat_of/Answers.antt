@@ -2,11 +2,15 @@ use Rattle.std.proofs.Common.{◌≡◌, ◌<◌, ◌≤◌}
 use Rattle.jv_resolve.proofs.Tests.{none_weaker, some_weaker}
 use Rattle.av_rules.specs.declared.flat_type.FlatType.{FlatType}
 use Rattle.av_rules.specs.FlatTypes.{IsFlat}
-use Rattle.av_rules.proofs.Flats.{array_of, flat_absent, flat_array_one, flat_by_item, flat_full, flat_none}
+use Rattle.av_rules.proofs.Flats.{array_of, flat_absent, flat_array_one, flat_by_item, flat_class_one, flat_full, flat_none}
 use Rattle.av_rules.proofs.flat_type.+flat_of.Goals as goal
 
 pub returns-in-None-clause-none : goal.returns-in-None-clause-none
 returns-in-None-clause-none t c = flat_absent c.args.world.now c.args.t.now c.in-Class.name c.in-Class.is c.in-None.ensures.none
+
+pub returns-in-Some-clause-one : goal.returns-in-Some-clause-one
+returns-in-Some-clause-one t c =
+    flat_class_one c.args.world.now c.args.t.now c.in-Class.name c.in-Some.c c.in-Some.ensures.world.numbered c.in-Class.is c.in-Some.ensures.found
 
 pub returns-in-None-flat_of-clause-none : goal.returns-in-None-flat_of-clause-none
 returns-in-None-flat_of-clause-none t c =
