@@ -1,5 +1,5 @@
 -- What may stand in arrays.
-use Rattle.std.proofs.Common.{◌≡◌, ◌↔◌, ◌+◌, ◌<◌, ℕ, Bool, IsTrue, List, Some, slice_get, refl, sym, ap, ◌∙◌, subst, ⊎_elim, arith}
+use Rattle.std.proofs.Common.{◌≡◌, ◌↔◌, ◌+◌, ℕ, Bool, IsTrue, List, refl, sym, ap, ◌∙◌, subst, ⊎_elim, arith}
 use Rattle.std.proofs.lemmas.List.{append_cancel_right}
 use Rattle.std.proofs.lemmas.Option.{same_Some}
 use Rattle.std.specs.Prelude.{codes}
@@ -12,9 +12,9 @@ use Rattle.jv_world.specs.Instances.{IsBaseHere}
 use Rattle.jv_world.specs.Worlds.{AreNumbered, IsNamed}
 use Rattle.av_conditions.specs.StandIn.{any_name}
 use Rattle.av_rules.specs.declared.flat_type.FlatType.{FlatType}
-use Rattle.av_rules.specs.Labels.{AreItems, IsBound, IsReferenceFlat, IsSeenAs, IsTypeOf, MayStandIn, PassesFlat}
+use Rattle.av_rules.specs.Labels.{AreItems, IsBound, IsReferenceFlat, IsSeenAs, MayStandIn, PassesFlat}
 use Rattle.av_rules.specs.Program.{Program}
-use Rattle.av_rules.specs.StandInClasses.{IsAnyClass, IsAnyClassOf}
+use Rattle.av_rules.specs.StandInClasses.{IsAnyClassOf}
 use Rattle.av_rules.proofs.Here.{seen_here, type_here}
 use Rattle.av_rules.proofs.Types.{AreDistinct, type_one}
 

@@ -1,5 +1,5 @@
 -- The facts of a list as a set that a test decides.
-use Rattle.std.proofs.Common.{◌≡◌, ◌↔◌, Bool, true, IsTrue, List, Contains}
+use Rattle.std.proofs.Common.{◌↔◌, Bool, IsTrue, List, Contains}
 use Rattle.std.specs.List.{list_any}
 use Rattle.std.proofs.lemmas.Map.Views.{list_any-from_Contains, Contains-from_any}
 use Rattle.jv_types.specs.declared.fact.Fact.{Fact}

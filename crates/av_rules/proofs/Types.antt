@@ -1,5 +1,5 @@
 -- A label has one type at most.
-use Rattle.std.proofs.Common.{◌≡◌, ◌+◌, ◌<◌, ℕ, List, [], ◌∷◌, Option, None, Some, Contains, slice_get, bit_and, sym, ap, ◌∙◌, subst, ⊎_elim, arith}
+use Rattle.std.proofs.Common.{◌≡◌, ℕ, List, Some, Contains, slice_get, bit_and, sym, ap, ◌∙◌, subst, ⊎_elim, arith}
 use Rattle.std.proofs.lemmas.Option.{same_Some}
 use Rattle.jv_types.specs.Bodies.{at_offset}
 use Rattle.jv_types.specs.declared.desc.RefType.{RefType}
@@ -19,7 +19,6 @@ use Rattle.jv_world.specs.Worlds.{AreNumbered, IsNamed}
 use Rattle.jv_resolve.proofs.PlacesLemmas.{read_at}
 use Rattle.av_conditions.specs.StandIn.{any_name}
 use Rattle.av_rules.specs.declared.flat_type.FlatType.{FlatType}
-use Rattle.av_rules.specs.FlatTypes.{IsFlat}
 use Rattle.av_rules.specs.Labels.{IsInner, IsLibType, IsMadeClass, IsSiteType, IsTypeOf, Makes, MakesBy, MakesOf}
 use Rattle.av_rules.specs.Program.{Program}
 use Rattle.av_rules.specs.StandInClasses.{IsAnyClassOf, IsFinalClass}

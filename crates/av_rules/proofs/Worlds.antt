@@ -1,5 +1,5 @@
 -- What the worlds of programs have.
-use Rattle.std.proofs.Common.{◌≡◌, ℕ, List, refl, sym, inl}
+use Rattle.std.proofs.Common.{ℕ, List, refl, sym, inl}
 use Rattle.jv_types.specs.declared.shapes.Shape.{Shape}
 use Rattle.jv_world.specs.Worlds.{IsNamed, object_name}
 use Rattle.jv_resolve.proofs.PlacesLemmas.{read_at}

@@ -1,7 +1,6 @@
 -- The sixteen rules as one relation.
-use Rattle.jv_fix.specs.Facts.{Premises, One, Two}
+use Rattle.jv_fix.specs.Facts.{Premises}
 use Rattle.jv_types.specs.declared.fact.Fact.{Fact}
-use Rattle.jv_types.specs.declared.fact.Fact.TheVariants as facts
 use Rattle.av_rules.specs.Program.{Program}
 use Rattle.av_rules.specs.Rules.Allocate.{Allocate}
 use Rattle.av_rules.specs.Rules.Argument.{Argument}

@@ -1,8 +1,6 @@
 -- What is analysed, and its program points: instructions with the frames before them.
-use Rattle.std.specs.Prelude.{◌≡◌, ◌⊎◌, ℕ, IsTrue, List, length, Option, Some, Contains}
+use Rattle.std.specs.Prelude.{◌≡◌, ◌⊎◌, ℕ, IsTrue, List, length, Some, Contains}
 use Rattle.jv_types.specs.Bodies.{at_offset, IsNextStart}
-use Rattle.jv_types.specs.declared.fact.Fact.{Fact}
-use Rattle.jv_types.specs.declared.fact.Fact.TheVariants as facts
 use Rattle.jv_types.specs.declared.fact.CallFrom.{CallFrom}
 use Rattle.jv_types.specs.declared.fact.CallFrom.TheVariants as origins
 use Rattle.jv_types.specs.declared.frames.Frame.{Frame}
@@ -10,7 +8,6 @@ use Rattle.jv_types.specs.declared.frames.FramedBody.{FramedBody}
 use Rattle.jv_types.specs.declared.frames.VType.{VType}
 use Rattle.jv_types.specs.declared.ids.MethodId.{MethodId}
 use Rattle.jv_types.specs.declared.instruction.Insn.{Insn}
-use Rattle.jv_types.specs.declared.label.Label.{Label}
 use Rattle.jv_types.specs.declared.place.Place.{Place}
 use Rattle.jv_types.specs.declared.place.Place.TheVariants as places
 use Rattle.jv_types.specs.declared.shapes.Shape.{Shape}

@@ -4,7 +4,7 @@ use Rattle.std.specs.Prelude.{◌≡◌, ℕ, ◌⊎◌, false, List, [], ◌∷
 use Rattle.jv_types.specs.declared.ids.FieldId.{FieldId}
 use Rattle.jv_types.specs.declared.ids.MethodId.{MethodId}
 use Rattle.jv_types.specs.declared.shapes.Shape.{Shape}
-use Rattle.jv_world.specs.Worlds.{object_name, IsFinal, IsInterface, IsNamed, Sub}
+use Rattle.jv_world.specs.Worlds.{IsFinal, IsInterface, IsNamed, Sub}
 use Rattle.jv_resolve.specs.Members.{DeclaresField, HasMethod}
 use Rattle.av_conditions.specs.CoreClasses.{throwable_name}
 use Rattle.av_conditions.specs.StandIn.{any_name, fresh_name, known_name, library_name, object_desc}

@@ -1,6 +1,6 @@
 -- What the stand-in sums up, as ten conditions on a set of facts. They speak of what application code does to the
 -- library and of what the library may do to it, and not of the stand-in's code.
-use Rattle.std.specs.Prelude.{◌≡◌, ◌+◌, ◌≤◌, ◌<◌, ℕ, ◌⊎◌, ◌↔◌, Bool, IsTrue, false, List, [], ◌∷◌, None, Some, Contains}
+use Rattle.std.specs.Prelude.{◌≡◌, ◌+◌, ◌≤◌, ◌<◌, ℕ, ◌↔◌, Bool, IsTrue, false, List, [], ◌∷◌, Some, Contains}
 use Rattle.jv_types.specs.declared.desc.Desc.{Desc}
 use Rattle.jv_types.specs.declared.desc.Desc.TheVariants as descs
 use Rattle.jv_types.specs.declared.desc.PrimType.{PrimType}

@@ -1,10 +1,9 @@
 -- Allocate. An instruction of a method that is entered pushes what it makes (JVMS 6.5, new, newarray, anewarray,
 -- multianewarray), and the inner arrays of multianewarray stand in those around them.
-use Rattle.std.specs.Prelude.{◌≡◌, ◌+◌, ◌⊎◌, ℕ}
-use Rattle.jv_fix.specs.Facts.{Premises, One, Two}
+use Rattle.std.specs.Prelude.{◌≡◌, ◌+◌, ℕ}
+use Rattle.jv_fix.specs.Facts.{Premises, One}
 use Rattle.jv_types.specs.declared.fact.Fact.{Fact}
 use Rattle.jv_types.specs.declared.fact.Fact.TheVariants as facts
-use Rattle.jv_types.specs.declared.ids.MethodId.{MethodId}
 use Rattle.jv_types.specs.declared.label.Label.{Label}
 use Rattle.jv_types.specs.declared.place.Place.{Place}
 use Rattle.jv_types.specs.declared.place.Place.TheVariants as places

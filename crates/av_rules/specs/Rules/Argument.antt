@@ -1,11 +1,10 @@
 -- Argument. The labels of a call's arguments go to the parameters of a method that it calls, where the resolved method
 -- has that method's name and descriptor (JVMS 2.6.1, 6.5).
 use Rattle.std.specs.Prelude.{◌≡◌, ◌+◌, ◌<◌, ◌≤◌, ℕ, ◌==◌, if◌then◌else◌}
-use Rattle.jv_fix.specs.Facts.{Premises, One, Two}
+use Rattle.jv_fix.specs.Facts.{Premises, Two}
 use Rattle.jv_types.specs.declared.fact.Fact.{Fact}
 use Rattle.jv_types.specs.declared.fact.Fact.TheVariants as facts
 use Rattle.jv_table.specs.declared.ops.TheConstants.{INVOKESTATIC}
-use Rattle.jv_types.specs.declared.fact.CallFrom.{CallFrom}
 use Rattle.jv_types.specs.declared.ids.MethodId.{MethodId}
 use Rattle.jv_types.specs.declared.instruction.Insn.{Insn}
 use Rattle.jv_types.specs.declared.place.Place.{Place}

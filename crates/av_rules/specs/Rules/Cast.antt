@@ -1,6 +1,6 @@
 -- Cast. A checkcast lets the labels go on that pass its type (JVMS 6.5, checkcast).
 use Rattle.std.specs.Prelude.{◌≡◌}
-use Rattle.jv_fix.specs.Facts.{Premises, One, Two}
+use Rattle.jv_fix.specs.Facts.{Premises, One}
 use Rattle.jv_types.specs.declared.fact.Fact.{Fact}
 use Rattle.jv_types.specs.declared.fact.Fact.TheVariants as facts
 use Rattle.jv_table.specs.declared.ops.TheConstants.{CHECKCAST}

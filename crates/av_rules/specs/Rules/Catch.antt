@@ -1,7 +1,7 @@
 -- Catch. A throwable goes to the first handler, in the order of the table, that covers the instruction and catches it,
 -- and where there is none it leaves the method (JVMS 2.10).
 use Rattle.std.specs.Prelude.{◌≡◌, ℕ, List, Option, Some, None, slice_get}
-use Rattle.jv_fix.specs.Facts.{Premises, One, Two}
+use Rattle.jv_fix.specs.Facts.{Premises, One}
 use Rattle.jv_types.specs.declared.fact.Fact.{Fact}
 use Rattle.jv_types.specs.declared.fact.Fact.TheVariants as facts
 use Rattle.jv_types.specs.declared.body.Handler.{Handler}

@@ -1,7 +1,7 @@
 -- Constant. A load of a string or a class, in a method that is entered, pushes an object of the library (JVMS 6.5,
 -- ldc and ldc_w).
 use Rattle.std.specs.Prelude.{◌≡◌, List, Option, Some, None, ℕ}
-use Rattle.jv_fix.specs.Facts.{Premises, One, Two}
+use Rattle.jv_fix.specs.Facts.{Premises, One}
 use Rattle.jv_types.specs.declared.fact.Fact.{Fact}
 use Rattle.jv_types.specs.declared.fact.Fact.TheVariants as facts
 use Rattle.jv_types.specs.declared.ids.ClassId.{ClassId}

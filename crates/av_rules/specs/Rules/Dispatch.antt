@@ -1,7 +1,7 @@
 -- Dispatch. An invokestatic of a method that is entered calls the resolved method; another call calls what each label
 -- of its receiver selects, and the receiver stands in that method's first local variable (JVMS 6.5, 2.6.1).
 use Rattle.std.specs.Prelude.{◌≡◌}
-use Rattle.jv_fix.specs.Facts.{Premises, One, Two}
+use Rattle.jv_fix.specs.Facts.{Premises, One}
 use Rattle.jv_types.specs.declared.fact.Fact.{Fact}
 use Rattle.jv_types.specs.declared.fact.Fact.TheVariants as facts
 use Rattle.jv_table.specs.declared.ops.TheConstants.{INVOKESTATIC}

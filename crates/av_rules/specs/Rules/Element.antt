@@ -1,7 +1,7 @@
 -- Element. An aaload pushes what stands in the arrays of its label, and an aastore puts its value there where the
 -- label may stand in such an array (JVMS 6.5, aaload and aastore). Only arrays of references count.
-use Rattle.std.specs.Prelude.{◌≡◌, ◌+◌, ◌⊎◌, ℕ}
-use Rattle.jv_fix.specs.Facts.{Premises, One, Two}
+use Rattle.std.specs.Prelude.{◌≡◌, ◌+◌, ◌⊎◌}
+use Rattle.jv_fix.specs.Facts.{Premises, Two}
 use Rattle.jv_types.specs.declared.fact.Fact.{Fact}
 use Rattle.jv_types.specs.declared.fact.Fact.TheVariants as facts
 use Rattle.jv_table.specs.declared.ops.TheConstants.{AALOAD, AASTORE}

@@ -1,11 +1,10 @@
 -- Entry. What holds at the start, and where throwables go that leave main or an initialiser.
-use Rattle.std.specs.Prelude.{◌≡◌, ◌⊎◌, ℕ}
-use Rattle.jv_fix.specs.Facts.{Premises, One, Two}
+use Rattle.std.specs.Prelude.{◌≡◌, ◌⊎◌}
+use Rattle.jv_fix.specs.Facts.{Premises, One}
 use Rattle.jv_types.specs.declared.fact.Fact.{Fact}
 use Rattle.jv_types.specs.declared.fact.Fact.TheVariants as facts
 use Rattle.jv_types.specs.declared.fact.CallFrom.TheVariants.{Root}
 use Rattle.jv_types.specs.declared.ids.ClassId.{ClassId}
-use Rattle.jv_types.specs.declared.ids.FieldId.{FieldId}
 use Rattle.jv_types.specs.declared.ids.MethodId.{MethodId}
 use Rattle.jv_types.specs.declared.label.Label.TheVariants.{Lib}
 use Rattle.jv_types.specs.declared.label.LibBase.TheVariants as bases

@@ -1,7 +1,7 @@
 -- Field. A getfield pushes what stands in the field of the objects of its label, and a putfield puts its value there
 -- (JVMS 6.5, getfield and putfield).
-use Rattle.std.specs.Prelude.{◌≡◌, ◌+◌, ◌⊎◌, ℕ}
-use Rattle.jv_fix.specs.Facts.{Premises, One, Two}
+use Rattle.std.specs.Prelude.{◌≡◌, ◌+◌, ◌⊎◌}
+use Rattle.jv_fix.specs.Facts.{Premises, Two}
 use Rattle.jv_types.specs.declared.fact.Fact.{Fact}
 use Rattle.jv_types.specs.declared.fact.Fact.TheVariants as facts
 use Rattle.jv_table.specs.declared.ops.TheConstants.{GETFIELD, PUTFIELD}

@@ -1,7 +1,7 @@
 -- Initialise. In a method that is entered, new, getstatic, putstatic and invokestatic may first enter the initialisers
 -- of the application that the class has which they initialise, its superclasses and its superinterfaces (JVMS 5.5).
 use Rattle.std.specs.Prelude.{◌≡◌}
-use Rattle.jv_fix.specs.Facts.{Premises, One, Two}
+use Rattle.jv_fix.specs.Facts.{Premises, One}
 use Rattle.jv_types.specs.declared.fact.Fact.{Fact}
 use Rattle.jv_types.specs.declared.fact.Fact.TheVariants as facts
 use Rattle.av_conditions.specs.Initialisers.{MayEnter}

@@ -1,14 +1,13 @@
 -- Machine raise. Any instruction of a method that is entered may throw an object of the library: of Throwable, or of
 -- any collected subclass of it (JVMS 2.10, 6.3).
 use Rattle.std.specs.Prelude.{◌≡◌}
-use Rattle.jv_fix.specs.Facts.{Premises, One, Two}
+use Rattle.jv_fix.specs.Facts.{Premises, One}
 use Rattle.jv_types.specs.declared.fact.Fact.{Fact}
 use Rattle.jv_types.specs.declared.fact.Fact.TheVariants as facts
 use Rattle.jv_types.specs.declared.ids.ClassId.{ClassId}
 use Rattle.jv_types.specs.declared.label.Label.{Label}
 use Rattle.jv_types.specs.declared.label.Label.TheVariants.{Lib}
 use Rattle.jv_types.specs.declared.label.LibBase.TheVariants as bases
-use Rattle.jv_types.specs.declared.shapes.Shape.{Shape}
 use Rattle.av_rules.specs.Program.{Program, Point, IsPoint, method_of}
 use Rattle.av_rules.specs.Rules.Raise.{raise_place}
 use Rattle.av_rules.specs.StandInClasses.{IsCollected, IsThrowable}

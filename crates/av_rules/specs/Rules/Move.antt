@@ -1,7 +1,7 @@
 -- Move. The labels of a word go where an instruction leaves that word (JVMS 2.6.1, 2.6.2, 6.5), and those of a local
 -- variable also to each handler that covers the instruction (JVMS 2.10).
 use Rattle.std.specs.Prelude.{◌≡◌, ℕ, Contains}
-use Rattle.jv_fix.specs.Facts.{Premises, One, Two}
+use Rattle.jv_fix.specs.Facts.{Premises, One}
 use Rattle.jv_types.specs.declared.fact.Fact.{Fact}
 use Rattle.jv_types.specs.declared.fact.Fact.TheVariants as facts
 use Rattle.jv_types.specs.declared.body.Handler.{Handler}

@@ -1,6 +1,6 @@
 -- Reach. A method that is called is entered, where its code is given.
 use Rattle.std.specs.Prelude.{◌≡◌}
-use Rattle.jv_fix.specs.Facts.{Premises, One, Two}
+use Rattle.jv_fix.specs.Facts.{Premises, One}
 use Rattle.jv_types.specs.declared.fact.Fact.{Fact}
 use Rattle.jv_types.specs.declared.fact.Fact.TheVariants as facts
 use Rattle.av_rules.specs.Program.{Program, IsGiven}

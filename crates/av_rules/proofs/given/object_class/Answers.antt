@@ -1,4 +1,4 @@
-use Rattle.std.proofs.Common.{◌≡◌, ℕ, List, subst}
+use Rattle.std.proofs.Common.{ℕ, List, subst}
 use Rattle.jv_world.specs.Worlds.{IsNamed}
 use Rattle.av_rules.proofs.Worlds.{object_there}
 use Rattle.av_rules.proofs.given.object_class.Goals as goal

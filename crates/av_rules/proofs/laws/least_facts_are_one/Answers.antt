@@ -1,8 +1,8 @@
 -- The facts of a list as a set that a test decides.
-use Rattle.std.proofs.Common.{◌≡◌, ◌↔◌, Bool, true, IsTrue, List, Contains, refl, sym, ap, ◌∙◌}
+use Rattle.std.proofs.Common.{List, Contains}
 use Rattle.jv_fix.specs.Facts.{IsClosed, One, Two}
 use Rattle.jv_types.specs.declared.fact.Fact.{Fact}
-use Rattle.av_rules.specs.Closing.{Closed, Has, Least}
+use Rattle.av_rules.specs.Closing.{Closed, Has}
 use Rattle.av_rules.specs.Forcing.{Forces}
 use Rattle.av_rules.specs.Program.{Program}
 use Rattle.av_rules.proofs.FactSets.{is_listed, listed}

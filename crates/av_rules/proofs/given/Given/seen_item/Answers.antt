@@ -1,6 +1,5 @@
-use Rattle.std.proofs.Common.{◌≡◌, refl, sym, ap, subst}
+use Rattle.std.proofs.Common.{◌≡◌, refl, sym, subst}
 use Rattle.jv_resolve.proofs.Tests.{none_weaker, some_weaker}
-use Rattle.jv_types.specs.declared.label.LibBase.{LibBase}
 use Rattle.av_rules.specs.declared.flat_type.FlatType.{FlatType}
 use Rattle.av_rules.specs.Labels.{IsReferenceFlat, IsSeenAs}
 use Rattle.av_rules.proofs.BoundsLemmas.{seen_item_one}

@@ -1,4 +1,4 @@
-use Rattle.std.proofs.Common.{◌≡◌, ◌+◌, ◌<◌, arith}
+use Rattle.std.proofs.Common.{◌<◌}
 use Rattle.jv_resolve.proofs.Hierarchy.{named_here}
 use Rattle.jv_resolve.proofs.Tests.{ok_none, ok_some}
 use Rattle.jv_types.specs.declared.ids.MethodId.{MethodId}

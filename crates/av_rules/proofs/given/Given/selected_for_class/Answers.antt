@@ -1,4 +1,3 @@
-use Rattle.std.proofs.Common.{ℕ}
 use Rattle.jv_resolve.proofs.Tests.{none_at, ok_none, ok_some, some_at}
 use Rattle.jv_types.specs.declared.ids.MethodId.{MethodId}
 use Rattle.jv_types.specs.declared.label.LibBase.TheVariants as bases

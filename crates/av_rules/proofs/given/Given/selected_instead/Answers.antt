@@ -1,6 +1,4 @@
-use Rattle.std.proofs.Common.{◌≡◌, ℕ, sym, ap, ◌∙◌, subst}
 use Rattle.jv_resolve.proofs.Tests.{ok_none, ok_some}
-use Rattle.jv_types.specs.declared.ids.ClassId.{ClassId}
 use Rattle.jv_types.specs.declared.ids.MethodId.{MethodId}
 use Rattle.av_rules.specs.Steps.Selecting.{SelectsInstead, SelectsOpen}
 use Rattle.av_rules.proofs.SelectingLemmas.{open_of}
