@@ -1,0 +1,10 @@
+mod BoundsLemmas
+mod FactSets
+mod Flats
+mod Here
+mod MakingLemmas
+mod Passing
+mod SelectingLemmas
+mod Tables
+mod Types
+mod Worlds

@@ -1,0 +1,10 @@
+pub mod Closing
+pub mod Dispatching
+pub mod FlatTypes
+pub mod Forcing
+pub mod Labels
+pub mod Program
+pub mod Rules
+pub mod StandInClasses
+pub mod Steps
+pub mod Summary
