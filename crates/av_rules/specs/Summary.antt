@@ -21,14 +21,14 @@ use Rattle.jv_types.specs.declared.shapes.FieldShape.{FieldShape}
 use Rattle.jv_types.specs.declared.shapes.MethodShape.{MethodShape}
 use Rattle.jv_types.specs.declared.shapes.Shape.{Shape}
 use Rattle.jv_insn.specs.Effects.{cell_width, desc_cell}
-use Rattle.jv_insn.specs.Leaving.{words_taken}
+use Rattle.jv_insn.specs.Leaving.{AtStack, words_taken}
 use Rattle.jv_world.specs.Worlds.{object_name, IsNamed}
 use Rattle.jv_resolve.specs.Members.{init_name, DeclaresMethod, IsAbstract, IsField, IsInterfaceClass, IsMethod, IsPrivate, IsStatic}
 use Rattle.av_conditions.specs.CoreClasses.{finalize_name, void_desc}
 use Rattle.av_conditions.specs.Initialisers.{IsApplicationClass, IsInitialiser}
 use Rattle.av_rules.specs.Dispatching.{CallsAlike, LabelSelects, Runs}
 use Rattle.av_rules.specs.Labels.{MayStandIn, Passes, PassesFlat, throwable_type}
-use Rattle.av_rules.specs.Program.{Program, Point, IsEntryLocal, IsPoint, IsPushed, lowest_word, method_of, site_of, stack_place}
+use Rattle.av_rules.specs.Program.{Program, Point, IsEntryLocal, IsPoint, IsPushed, IsSlot, lowest_word, method_of, site_of, stack_place}
 use Rattle.av_rules.specs.Rules.Argument.{first_argument}
 use Rattle.av_rules.specs.Rules.Raise.{raise_place}
 use Rattle.av_rules.specs.StandInClasses.{IsCollected, IsFreshField, IsKnownField, IsLibraryClass, IsPartClass}
@@ -100,13 +100,14 @@ HasKnownOf p set type place = (label : Label) → Knows p set label → Passes p
 
 -- ---- the conditions on calls of the library
 
--- Hand over. The library knows the receivers of the methods that they select, and the arguments; Object's `<init>()V`
--- and the receiver of Object's `finalize()V` are left out.
+-- Hand over. The library knows the receivers of the methods that they select, and the arguments that are references;
+-- Object's `<init>()V` and the receiver of Object's `finalize()V` are left out.
 pub record HandOver (p : Program) (set : Fact → Type 0) : Type 0 where
   pub receivers : (at : Point) (t : MethodId) (label : Label) → CallsOut p set at t → ¬ IsObjectInit p.world t → ¬ IsObjectFinalize p.world t
       → Runs p at label t → set (facts.Pt (stack_place at (lowest_word at)) label) → Knows p set label
   pub arguments : (at : Point) (t : MethodId) (word : ℕ) → CallsOut p set at t → ¬ IsObjectInit p.world t → first_argument at.insn ≤ word
-      → word < words_taken at.insn → KnowsAllAt p set (stack_place at (lowest_word at + word))
+      → word < words_taken at.insn → IsSlot at.framed at.pc (AtStack (lowest_word at + word))
+      → KnowsAllAt p set (stack_place at (lowest_word at + word))
 
 -- Fresh objects. The receivers of Object's `<init>()V` are fresh.
 abbrev pub FreshObjects : Program → (Fact → Type 0) → Type 0
