@@ -1,5 +1,5 @@
 -- Each turn of the loop is one instruction.
-use Rattle.std.proofs.Common.{sym, subst, ℕ, ◌≤◌}
+use Rattle.std.proofs.Common.{subst, ℕ, ◌≤◌}
 use Rattle.av_asm.proofs.Offsets.{too_long, end_whole}
 use Rattle.av_asm.proofs.starts.starts_of.Goals as goal
 
