@@ -1,5 +1,5 @@
 -- One move of the library: of a thread whose last frame is the library's, or the beginning of a thread.
-use Rattle.std.specs.Prelude.{◌≡◌, ℕ, suc, ◌+◌, true, false, List, [], ◌∷◌, ◌++◌, Option, None, Some, Contains, length, slice_get}
+use Rattle.std.specs.Prelude.{◌≡◌, ℕ, suc, true, false, List, [], ◌∷◌, ◌++◌, Option, None, Some, Contains, length, slice_get}
 use Rattle.std.specs.Option.{option_map_or}
 use Rattle.jv_types.specs.declared.desc.Desc.{Desc}
 use Rattle.jv_types.specs.declared.desc.RefType.{RefType}
