@@ -1,4 +1,0 @@
-use Rattle.measure_rows.proofs.sparse.Given as goal
-
-abbrev pub ghosts-closed : goal.ghosts-closed
-ghosts-closed g a = record { name = a.blank.name; parts = a.blank.parts }
