@@ -1,3 +1,4 @@
 mod Arriving
-mod Joining
 mod Heading
+mod Joining
+mod Pairing

@@ -4,4 +4,6 @@
 
 mod laws;
 
-pub use laws::{moved_into_variables, packed_sets_are_closed, packed_sets_expand};
+pub use laws::{
+    moved_into_variables, packed_sets_are_closed, packed_sets_expand, pairs_stand_for_packed_facts,
+};
