@@ -1,4 +1,4 @@
-use Rattle.std.proofs.Common.{ℕ, List, subst, sym}
+use Rattle.std.proofs.Common.{subst, sym}
 use Rattle.jv_world.specs.Refusals.{HasCause}
 use Rattle.av_hierarchy.specs.Hierarchy.{HaveDistinctMethods}
 use Rattle.av_hierarchy.proofs.Passing.{none_absent, passes, refused_final}
