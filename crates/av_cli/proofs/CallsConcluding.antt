@@ -8,10 +8,11 @@ use Rattle.jv_host.specs.Files.{bytes_of}
 use Rattle.calls_form.specs.ObjectForm.{file_limit}
 use Rattle.av_cli.specs.declared.calls.answer.Answer.{Answer}
 use Rattle.av_cli.specs.declared.calls.answer.Answer.TheVariants.{Printed, Misused, Unreadable, NoFile, TooLarge, NotClass, OutsideForm, NoMain, Unwritable, OutOfMemory}
-use Rattle.av_cli.specs.Handing.{SinkState}
+use Rattle.av_outcome.specs.Handing.{SinkState}
 use Rattle.av_cli.specs.Calls.Answers.{file_name, file_most}
 use Rattle.av_cli.specs.Calls.FileKinds.{IsTooLarge}
-use Rattle.av_cli.specs.Calls.Ending.{Outside, Prints, ConcludesBytes, Concludes}
+use Rattle.av_cli.specs.Calls.Ending.{Prints, ConcludesBytes, Concludes}
+use Rattle.av_cli.specs.Outside.{Outside}
 
 -- a file that isn't too long is read whole
 pub take-short : (bytes : List ℕ) → length bytes ≤ file_limit → take file_most bytes ≡ bytes

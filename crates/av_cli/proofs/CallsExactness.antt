@@ -9,7 +9,8 @@ use Rattle.av_cli.specs.declared.calls.answer.Answer.{Answer}
 use Rattle.av_cli.specs.declared.calls.answer.Answer.TheVariants.{Printed, Misused, Unreadable, NoFile, TooLarge, NotClass, OutsideForm, NoMain, Unwritable, OutOfMemory}
 use Rattle.av_cli.specs.Calls.Answers.{file_name, request}
 use Rattle.av_cli.specs.Calls.FileKinds.{IsTooLarge, IsClassFile, IsInForm, IsNoClass, IsOutsideForm, DeclaresMain, LacksMain}
-use Rattle.av_cli.specs.Calls.Ending.{Outside, Concludes, HasCause, IsDue, IsFaultless, AreMisused}
+use Rattle.av_cli.specs.Calls.Ending.{Concludes, HasCause, IsDue, AreMisused}
+use Rattle.av_cli.specs.Outside.{Outside, IsFaultless}
 
 -- what an answer says of the bytes of the file
 abbrev Judges : List ℕ → List ℕ → Answer → Type 0

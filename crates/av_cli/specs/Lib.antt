@@ -1,3 +1,4 @@
-pub mod Statuses
-pub mod Handing
+pub mod Outside
 pub mod Calls
+pub mod Verifying
+pub mod Commands

@@ -2,10 +2,11 @@
 #![tactic(auto)]
 
 mod calls;
-mod handing;
-mod status;
+mod commands;
 mod top;
+mod verify;
 
+pub use av_outcome::Status;
 pub use calls::{Answer, GraphError, call_graph};
-pub use status::Status;
+pub use commands::run_with;
 pub use top::{run, stop_for_memory};

@@ -1,10 +1,11 @@
 ghost use Rattle.std.specs.Prelude.{◌≡◌, ◌⊎◌, [], map, option_map};
 ghost use Rattle.jv_host.specs.Counts.{one_more};
 ghost use Rattle.av_cli.specs.Calls.Answers.{error_line};
-ghost use Rattle.av_cli.specs.Calls.Ending.{Ends, CallsOnlyRead, Says};
+ghost use Rattle.av_cli.specs.Calls.Ending.{Ends, CallsOnlyRead};
+ghost use Rattle.av_outcome.specs.Handing.{Says};
 
 use crate::calls::{Answer, print_class, request_of, write_answer};
-use crate::status::Status;
+use av_outcome::Status;
 use jv_host::{Host, Sink};
 use std::alloc::Global;
 

@@ -1,8 +1,8 @@
 -- The answers of the command that prints the calls of one class: their statuses and their lines on err.
 use Rattle.std.specs.Prelude.{ℕ, List, [], ◌∷◌, ◌++◌, codes}
 use Rattle.jv_bytes.specs.Shown.{shown_text}
-use Rattle.av_cli.specs.declared.status.Status.{Status}
-use Rattle.av_cli.specs.declared.status.Status.TheVariants.{Done, Refused, Usage, ReadFault, WriteFault, Limit, Memory}
+use Rattle.av_outcome.specs.declared.status.Status.{Status}
+use Rattle.av_outcome.specs.declared.status.Status.TheVariants.{Done, Refused, Usage, ReadFault, WriteFault, Limit, Memory}
 use Rattle.av_cli.specs.declared.calls.answer.Answer.{Answer}
 use Rattle.av_cli.specs.declared.calls.answer.Answer.TheVariants.{Printed, Misused, Unreadable, NoFile, TooLarge, NotClass, OutsideForm, NoMain, Unwritable, OutOfMemory}
 

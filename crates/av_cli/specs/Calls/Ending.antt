@@ -8,30 +8,18 @@ use Rattle.jv_host.specs.Counts.{Rises}
 use Rattle.jv_host.specs.Files.{bytes_of}
 use Rattle.calls_form.specs.declared.object_class.ObjectClass.{ObjectClass}
 use Rattle.calls_form.specs.ObjectForm.{IsObjectClass}
-use Rattle.av_cli.specs.declared.status.Status.{Status}
+use Rattle.av_outcome.specs.declared.status.Status.{Status}
 use Rattle.av_cli.specs.declared.calls.answer.Answer.{Answer}
 use Rattle.av_cli.specs.declared.calls.answer.Answer.TheVariants.{Printed, Misused, Unreadable, NoFile, TooLarge, NotClass, OutsideForm, NoMain, Unwritable, OutOfMemory}
 use Rattle.av_cli.specs.Calls.Promise.{IsCallGraph}
 use Rattle.av_cli.specs.Calls.FileKinds.{IsTooLarge, IsClassFile, IsNoClass, IsOutsideForm, DeclaresMain, LacksMain}
-use Rattle.av_cli.specs.Handing.{SinkState, Takes, TakesFront, AreCountsKept}
+use Rattle.av_outcome.specs.Handing.{SinkState, Takes, TakesFront, AreCountsKept, Says}
+use Rattle.av_cli.specs.Outside.{Outside, NothingPrinted, IsFaultless}
 use Rattle.av_cli.specs.Calls.Answers.{status_of, file_name, file_most, request, class_of_words, error_line}
-
--- what a command sees of the outside: the files, where the host tells them, how its count of failed
--- reads moved, the call that failed last, where it tells that, and the printed output
-pub record Outside : Type 0 where
-  pub files : Option (List HostFile)
-  pub reads_before : ℕ
-  pub reads_after : ℕ
-  pub failed : Option (Option HostCall)
-  pub out_before : SinkState
-  pub out_after : SinkState
 
 -- where files are told, the class's file under the root has these bytes
 abbrev pub HasFile : Outside → List ℕ → List ℕ → List ℕ → Type 0
 HasFile o root name bytes = IfSome o.files (λ told. bytes_of told root (file_name name) ≡ Some bytes)
-
-abbrev pub NothingPrinted : Outside → Type 0
-NothingPrinted o = o.out_after ≡ o.out_before
 
 -- what an answer says of the bytes of the class's file, and of the printed output before and after
 abbrev pub Prints : List ℕ → List ℕ → SinkState → SinkState → Answer → Type 0
@@ -103,15 +91,6 @@ IsDue words told NoMain =
 IsDue words told Unreadable = ⊥
 IsDue words told Unwritable = ⊥
 IsDue words told OutOfMemory = ⊥
-
--- neither the host's reads nor the printed output failed
-pub record IsFaultless (o : Outside) : Type 0 where
-  pub reads : ¬ Rises o.reads_before o.reads_after
-  pub writes : ¬ Rises o.out_before.faults o.out_after.faults
-
--- a sink took a line and nothing failed, or only a front of it and a count of its own rose
-abbrev pub Says : SinkState → SinkState → List ℕ → Type 0
-Says old new line = (Takes old new line × AreCountsKept old new) ⊎ (TakesFront old new line × (Rises old.faults new.faults ⊎ Rises old.lacks new.lacks))
 
 -- how the command ended
 pub record Ends (words : List (List ℕ)) (o : Outside) (err_before err_after : SinkState) (status : Status) : Type 0 where

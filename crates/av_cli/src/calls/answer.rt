@@ -1,7 +1,7 @@
 ghost use Rattle.std.specs.Prelude.{◌≡◌};
 ghost use Rattle.av_cli.specs.Calls.Answers.{status_of};
 
-use crate::status::Status;
+use av_outcome::Status;
 
 /// Why the command `calls` ended.
 #[derive(Clone, Copy, Debug, PartialEq, Eq)]

@@ -9,7 +9,7 @@ ghost use Rattle.av_cli.specs.Calls.Ending.{Prints, Concludes};
 
 use crate::calls::answer::Answer;
 use crate::calls::graph::{GraphError, call_graph};
-use crate::handing::write_lines;
+use av_outcome::write_lines;
 use jv_host::{Host, HostFault, Sink, SinkFault};
 use jv_types::Name;
 use std::alloc::{AllocError, Global};

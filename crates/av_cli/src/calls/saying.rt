@@ -1,9 +1,9 @@
 ghost use Rattle.std.specs.Prelude.{◌≡◌};
 ghost use Rattle.av_cli.specs.Calls.Answers.{error_line};
-ghost use Rattle.av_cli.specs.Handing.{Handed};
+ghost use Rattle.av_outcome.specs.Handing.{Handed};
 
 use crate::calls::answer::Answer;
-use crate::handing::{write_about, write_whole};
+use av_outcome::{write_about, write_whole};
 use jv_host::{Sink, SinkFault};
 
 /// Tells err why a command ended, about the class of this name. This takes no memory, and makes no

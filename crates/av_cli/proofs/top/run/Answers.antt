@@ -1,7 +1,7 @@
 use Rattle.std.proofs.Common.{List, ℕ, refl, ap, sym, ◌∙◌}
 use Rattle.av_cli.specs.declared.calls.answer.Answer.TheVariants.{Misused}
 use Rattle.av_cli.specs.Calls.Answers.{class_of_words, error_line}
-use Rattle.av_cli.proofs.Sinks.{says, Handed-is}
+use Rattle.av_outcome.proofs.Sinks.{says, Handed-is}
 use Rattle.av_cli.proofs.CallsExactness.{has_cause, exact_request, exact_misused}
 use Rattle.av_cli.proofs.top.run.Goals as goal
 

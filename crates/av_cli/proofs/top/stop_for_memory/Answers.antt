@@ -1,4 +1,4 @@
-use Rattle.av_cli.proofs.Sinks.{says}
+use Rattle.av_outcome.proofs.Sinks.{says}
 use Rattle.av_cli.proofs.top.stop_for_memory.Goals as goal
 
 pub returns-clause-said : goal.returns-clause-said

@@ -1,6 +1,6 @@
 use Rattle.std.specs.Prelude.{codes}
-use Rattle.av_cli.proofs.Sinks.{Handed-is}
-use Rattle.av_cli.proofs.ShownText.{line_of_name, line_of_file}
+use Rattle.av_outcome.proofs.Sinks.{Handed-is}
+use Rattle.av_outcome.proofs.ShownText.{line_of_name, line_of_file}
 use Rattle.av_cli.proofs.calls.saying.write_answer.Goals as goal
 
 pub returns-in-Unreadable-clause-said : goal.returns-in-Unreadable-clause-said

@@ -1,0 +1,71 @@
+ghost use Rattle.std.specs.Prelude.{◌≡◌, ◌⊎◌, List, ℕ, map, option_map};
+ghost use Rattle.jv_host.specs.Counts.{one_more};
+ghost use Rattle.av_words.specs.Requests.{AskCalls, AskNothing};
+ghost use Rattle.av_cli.specs.Calls.Ending.{CallsOnlyRead};
+ghost use Rattle.av_cli.specs.Commands.{Runs};
+ghost use Rattle.av_cli.specs.Verifying.{VerifyEnds};
+
+use crate::calls::{print_class, write_answer};
+use crate::verify::verify;
+use av_acceptor::Acceptor;
+use av_outcome::{Outcome, Status, finish};
+use av_words::{Request, request_of};
+use jv_host::{Host, Sink};
+use std::alloc::{AllocError, Global};
+
+/// Runs the command that the words name, with the acceptor that is handed in.
+///
+/// - `verify --app DIR --lib DIR` accepts the application under one root over the library under the other, and prints a
+///   line `verified CLASS NAME DESC` to `out` for each method of the application that has code, sorted by bytes.
+/// - `calls ROOT NAME` reads `NAME.class` under ROOT and prints the calls of that class, and where its objects stand, to
+///   `out`, a line each, sorted by bytes.
+///
+/// A status that isn't `Done` writes one line to `err`. Nothing is written by the host.
+pub fn run_with<H: Host, O: Sink, E: Sink, A: Acceptor>(
+    alloc: Global,
+    words: &[&str],
+    host: &mut H,
+    out: &mut O,
+    err: &mut E,
+    acceptor: &A,
+) -> Status
+    // The outcome: its status, its cause, and the line that err gets.
+    ensures ends { Runs (VerifyEnds A.FirstStop A.ProgramOf A.Collects A.IsAccepted) (map (λ w. w.now) words.now) (record {
+      files = H.files host.old;
+      reads_before = H.read_faults host.old;
+      reads_after = H.read_faults host.new;
+      failed = H.failed host.new;
+      out_before = record { taken = O.taken out.old; faults = O.faults out.old; lacks = O.lacks out.old };
+      out_after = record { taken = O.taken out.new; faults = O.faults out.new; lacks = O.lacks out.new };
+    })
+        (record { taken = E.taken err.old; faults = E.faults err.old; lacks = E.lacks err.old })
+        (record { taken = E.taken err.new; faults = E.faults err.new; lacks = E.lacks err.new }) result }
+    ensures silent_at_done { result ≡ Status.Done → err.new ≡ err.old }
+    // Neither sink is handed an empty piece.
+    ensures no_blank_printed { O.blanks out.new ≡ O.blanks out.old }
+    ensures no_blank_told { E.blanks err.new ≡ E.blanks err.old }
+
+    // The host isn't called where the words are in no form, and but for the one read where they ask for `calls`.
+    ensures idle { AskNothing (map (λ w. w.now) words.now) → host.new ≡ host.old }
+    ensures asked_at_most_once { (root name : List ℕ) → AskCalls (map (λ w. w.now) words.now) root name
+        → (H.asked host.new ≡ H.asked host.old) ⊎ (H.asked host.new ≡ option_map one_more (H.asked host.old)) }
+    ensures only_read { (root name : List ℕ) → AskCalls (map (λ w. w.now) words.now) root name
+        → CallsOnlyRead (map (λ w. w.now) words.now) (H.calls host.old) (H.calls host.new) }
+    ensures files_kept { H.files host.new ≡ H.files host.old }
+    ensures written_kept { H.written host.new ≡ H.written host.old }
+    ensures write_faults_kept { H.write_faults host.new ≡ H.write_faults host.old }
+{
+    match request_of(alloc, words) {
+        Err(AllocError) => finish(err, &Outcome::Memory),
+        Ok(None) => finish(err, &Outcome::Usage),
+        Ok(Some(Request::Calls { root, name })) => {
+            let answer = print_class(alloc, root.as_bytes(), name.as_bytes(), host, out);
+            let _ = write_answer(err, answer, name.as_bytes());
+            answer.status()
+        }
+        Ok(Some(Request::Verify { app, lib })) => {
+            let outcome = verify(alloc, acceptor, app.as_bytes(), lib.as_bytes(), host, out);
+            finish(err, &outcome)
+        }
+    }
+}

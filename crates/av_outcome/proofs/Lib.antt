@@ -1,0 +1,4 @@
+pub mod Sinks
+pub mod ShownText
+pub mod FlatMaps
+pub mod Done

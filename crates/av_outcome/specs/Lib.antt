@@ -1,0 +1,4 @@
+pub mod Statuses
+pub mod Handing
+pub mod Pieces
+pub mod Outcomes
