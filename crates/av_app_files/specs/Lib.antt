@@ -1,0 +1,4 @@
+pub mod Folders
+pub mod FileRules
+pub mod Counting
+pub mod Reading

@@ -1,0 +1,5 @@
+mod Among
+mod Below
+mod Finding
+mod Leasts
+mod Passing

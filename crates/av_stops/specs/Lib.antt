@@ -1,0 +1,10 @@
+pub mod Bodies
+pub mod MethodRules
+pub mod Applications
+pub mod LibraryFolders
+pub mod CollectedRules
+pub mod Mains
+pub mod FirstStops
+pub mod Calls
+pub mod Answering
+pub mod Programs
