@@ -1,0 +1,3 @@
+mod Accessing
+mod KeptRows
+mod Ordering
