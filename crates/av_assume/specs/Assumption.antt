@@ -6,14 +6,15 @@
 --   sees overrides no package-private method that is declared outside the package of the lowest class that it extends
 --   (av_model, UnseenClasses).
 -- NeverBelowApplication: no type of the library is below one of the application (av_model, LibraryTypes).
--- MakesAndCopies: it makes objects of its own types, and copies of what it knows (`Creates`, below).
--- CallsBack: it calls, on what it knows, instance methods that its own types declare (`Callback`).
+-- MakesAndCopies: it makes objects of its own types, and copies of what it knows (LibraryMoves, `MakesObject`).
+-- CallsBack: it calls, on what it knows, instance methods that its own types declare (`IsCalledBack`, `CallsApplication`).
 -- PassesKnown: what it hands over is known and fits the declared type; what it is handed becomes known (`IsHandedOver`;
 --   av_model, Calling, Returning and Raising).
--- UsesNamedFields: of fields it reads and writes those of its own classes (`UsesLibraryField`).
--- UsesElements: it reads items of the arrays that it knows, and writes what fits there (`UsesKnownArray`).
--- ThrowsKnownThrowables: it throws what it knows that is a Throwable (`Throws`).
--- EntersOnlyAtStart: initialisers and static methods of the application it enters at the start alone (`EntersAtStart`).
+-- UsesNamedFields: of fields it reads and writes those of its own classes (`IsLibraryField`).
+-- UsesElements: it reads items of the arrays that it knows, and writes what fits there (`IsKnownArray`, `FitsKnown`).
+-- ThrowsKnownThrowables: it throws what it knows that is a Throwable (LibraryMoves, `throws_known`).
+-- EntersOnlyAtStart: initialisers and static methods of the application it enters at the start alone (LibraryMoves,
+--   `EntersAtStart`).
 -- FreshUntilKnown: an object on which only the constructor of java/lang/Object was called may be finalized, and is no more
 --   known for that (`IsFinalizable`; av_model, Calling).
 use Rattle.std.specs.Prelude.{◌≡◌, ℕ, ◌⊎◌, List, [], ◌∷◌, Some, slice_get, Contains}

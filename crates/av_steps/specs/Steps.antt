@@ -1,0 +1,5 @@
+pub mod FieldMoves
+pub mod ItemMoves
+pub mod Lists
+pub mod Made
+pub mod Tests

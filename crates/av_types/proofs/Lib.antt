@@ -1,0 +1,2 @@
+pub mod RisingClasses
+pub mod Types
