@@ -1,0 +1,4 @@
+pub mod Rising
+pub mod Sets
+pub mod Placing
+pub mod Noting
