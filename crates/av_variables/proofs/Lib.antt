@@ -1,0 +1,4 @@
+mod Arriving
+mod Heading
+mod Joining
+mod Pairing
