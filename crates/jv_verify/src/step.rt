@@ -7,7 +7,7 @@ ghost use Rattle.jv_typing.specs.TypeSafe.{site_at};
 
 use jv_types::{Body, Frame, Insn, MethodId};
 use jv_typing::NoTyping;
-use jv_verify_refs::ref_step;
+use jv_verify_refs::ref_insn_step;
 use jv_verify_words::word_step;
 use jv_world::World;
 use std::alloc::Global;
@@ -29,6 +29,8 @@ pub fn step(
     match word_step(alloc, frame, insn, body.max_stack) {
         Ok(after) => Ok(after),
         Err(NoTyping::Memory) => Err(NoTyping::Memory),
-        Err(NoTyping::Rule) => ref_step(alloc, world, method.class, method, body, frame, pc),
+        Err(NoTyping::Rule) => {
+            ref_insn_step(alloc, world, method.class, method, body, frame, pc, insn)
+        }
     }
 }

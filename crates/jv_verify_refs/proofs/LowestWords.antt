@@ -1,21 +1,29 @@
 -- The word of a receiver, or of an array, among the values that are popped.
-use Rattle.std.proofs.Common.{◌≡◌, ℕ, false, IsTrue, List, [], ◌∷◌, ◌++◌, length, inl, inr, refl, sym, ap, ◌∙◌, subst}
-use Rattle.std.specs.Prelude.{◌⊎◌, suc}
-use Rattle.std.specs.List.{AllZip}
+use Rattle.std.proofs.Common.{◌≡◌, ◌<◌, ◌+◌, ℕ, Bool, true, false, ◌||◌, IsTrue, List, [], ◌∷◌, ◌++◌, length, get_or, slice_get, Some, inl, inr, refl, sym, ap, ◌∙◌, subst, arith}
+use Rattle.std.specs.Prelude.{◌⊎◌, None, suc}
+use Rattle.std.specs.List.{AllZip, list_any}
+use Rattle.std.proofs.Math.Seq.{get_or-append_seam}
+use Rattle.std.proofs.lemmas.List.{length-append}
+use Rattle.std.proofs.lemmas.Option.{slice_get-get_or, get_or_from_slice_get}
 use Rattle.std.proofs.lemmas.Bool.{false≢true}
 use Rattle.std.proofs.lemmas.Slice.Zip.{AllZip-long}
 use Rattle.jv_table.specs.declared.code_tables.Cell.{Cell}
+use Rattle.jv_types.specs.declared.desc.Desc.{Desc}
+use Rattle.jv_types.specs.declared.desc.Desc.TheVariants as descs
+use Rattle.jv_types.specs.declared.desc.RefType.{RefType, Row_of-RefType, end_of-RefType, more_of-RefType}
+use Rattle.jv_types.specs.declared.desc.RefType as refs
 use Rattle.jv_types.specs.declared.shapes.Shape.{Shape}
 use Rattle.jv_types.specs.declared.frames.VType.{VType, Top, Null, Class, PrimArray, Array}
 use Rattle.jv_types.specs.declared.frames.VType as types
 use Rattle.jv_types.specs.declared.frames.Frame.{Frame}
 use Rattle.jv_insn.specs.Kinds.{is_wide}
-use Rattle.jv_frames.specs.Types.{is_array, type_words, in_words}
+use Rattle.jv_frames.specs.Types.{is_array, type_words, in_words, ref_vtype, items_vtype, desc_vtype}
 use Rattle.jv_frames.specs.Assignable.{IsAssignable, same, to_top, of_null, of_class, of_array, of_items}
 use Rattle.jv_frames.proofs.Arrays.{is_array-Array, same_items}
 use Rattle.jv_typing.proofs.TypingOnce.{SameParts, same_ends}
 use Rattle.jv_typing.specs.Transitions.{CanPop, IsTransition, StandsBelow}
 use Rattle.jv_typing.specs.References.{LoadsItem}
+use Rattle.jv_verify_refs.specs.Steps.Parts.{Pops}
 
 -- ---- values of one word
 
@@ -31,6 +39,30 @@ one_word (types.Uninit pc) e = refl
 one_word (types.Class name) e = refl
 one_word (types.PrimArray prim) e = refl
 one_word (types.Array' shape all) e = refl
+
+-- such values are their own words
+pub narrow_words : (types : List VType) → list_any is_wide types ≡ false → in_words types ≡ types
+narrow_words [] none = refl
+narrow_words (type ∷ types) none = by_first (is_wide type) refl
+  where
+    by_first : (b : Bool) → is_wide type ≡ b → in_words (type ∷ types) ≡ type ∷ types
+    by_first true e = absurd (false≢true (sym none ∙ ap (λ (b : Bool). b || list_any is_wide types) e))
+    by_first false e =
+        let more : list_any is_wide types ≡ false = sym (ap (λ (b : Bool). b || list_any is_wide types) e) ∙ none in
+        ap (λ (ws : List VType). ws ++ in_words types) (one_word type e) ∙ ap (λ (ws : List VType). type ∷ ws) (narrow_words types more)
+
+items_narrow : {m : _} → (items : Row_of-RefType m) → is_wide (items_vtype items) ≡ false
+items_narrow end_of-RefType = refl
+items_narrow (more_of-RefType item rest) = refl
+
+pub ref_narrow : (type : RefType) → is_wide (ref_vtype type) ≡ false
+ref_narrow (refs.Class name) = refl
+ref_narrow (refs.PrimArray prim) = refl
+ref_narrow (refs.Array' shape items) = items_narrow items
+
+pub value_of_ref : (desc : Desc) (type : RefType) → desc ≡ descs.Ref type → 1 ≡ length (in_words (desc_vtype desc ∷ []))
+value_of_ref desc type is =
+    sym (ap (λ (d : Desc). length (in_words (desc_vtype d ∷ []))) is ∙ ap (λ (ws : List VType). length (ws ++ [])) (one_word (ref_vtype type) (ref_narrow type)))
 
 pub array_not_wide : (type : VType) → IsTrue (is_array type) → is_wide type ≡ false
 array_not_wide types.Top e = refl
@@ -87,6 +119,48 @@ pub receiver_fits : (w : List Shape) (cells : List Cell) (stack : List VType) (w
 receiver_fits w cells stack word type more narrow stands p =
     let low = lowest_fits w cells stack type more narrow p in
     subst (λ (t : VType). IsAssignable w t type) (one_receiver (length (in_words more)) stack low.word word low.stands stands) low.fits
+
+-- the word right above what is left is the lowest of them
+record SeamAt (w : List Shape) (stack : List VType) (type : VType) (more below : List VType) : Type 0 where
+  word : VType
+  above : List VType
+  whole : stack ≡ below ++ word ∷ above
+  fits : AllZip (IsAssignable w) above (in_words more)
+
+seam_at : (w : List Shape) (cells : List Cell) (stack : List VType) (type : VType) (more below : List VType) → is_wide type ≡ false → Pops w cells (type ∷ more) stack below
+    → SeamAt w stack type more below
+seam_at w cells stack type more below narrow p =
+    let words : in_words (type ∷ more) ≡ type ∷ in_words more = ap (λ (ws : List VType). ws ++ in_words more) (one_word type narrow) in
+    let parts = zip_first (IsAssignable w) p.0.takes.top type (in_words more) (subst (λ (ws : List VType). AllZip (IsAssignable w) p.0.takes.top ws) words p.0.fits) in
+    record {
+      word = parts.0;
+      above = parts.1;
+      whole = p.0.takes.whole ∙ ap (λ (ws : List VType). p.0.takes.below ++ ws) parts.2 ∙ ap (λ (bs : List VType). bs ++ parts.0 ∷ parts.1) p.1;
+      fits = parts.4;
+    }
+
+pub lowest_at : (w : List Shape) (cells : List Cell) (stack : List VType) (type : VType) (more below : List VType) → is_wide type ≡ false → Pops w cells (type ∷ more) stack below
+    → (word : VType) → slice_get stack (length below) ≡ Some word → StandsBelow (length (in_words more)) stack word
+lowest_at w cells stack type more below narrow p word at =
+    let seam = seam_at w cells stack type more below narrow p in
+    let is : seam.word ≡ word =
+    sym (get_or-append_seam below seam.word seam.above word) ∙ ap (λ (xs : List VType). get_or xs (length below) word) (sym seam.whole)
+    ∙ get_or_from_slice_get stack (length below) word word at in
+    record {
+      below = below;
+      above = seam.above;
+      whole = seam.whole ∙ ap (λ (t : VType). below ++ t ∷ seam.above) is;
+      are = sym (AllZip-long (IsAssignable w) seam.above (in_words more) seam.fits);
+    }
+
+pub lowest_there : (w : List Shape) (cells : List Cell) (stack : List VType) (type : VType) (more below : List VType) → is_wide type ≡ false → Pops w cells (type ∷ more) stack below
+    → slice_get stack (length below) ≡ None → ⊥
+lowest_there w cells stack type more below narrow p none =
+    let seam = seam_at w cells stack type more below narrow p in
+    let long : length stack ≡ length below + length (seam.word ∷ seam.above) = ap length seam.whole ∙ length-append below (seam.word ∷ seam.above) in
+    let inside : length below < length stack = omega arith in
+    let e : Some (get_or stack (length below) seam.word) ≡ None = sym (slice_get-get_or stack (length below) seam.word inside) ∙ none in
+    absurd cc
 
 -- another type may stand in the place of the lowest one, if the receiver is assignable to it
 pub other_lowest : (w : List Shape) (cells : List Cell) (stack : List VType) (word type other : VType) (more : List VType) → is_wide type ≡ false → is_wide other ≡ false

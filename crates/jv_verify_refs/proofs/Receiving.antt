@@ -1,5 +1,5 @@
 -- The receiver of a protected member.
-use Rattle.std.proofs.Common.{◌≡◌, ℕ, Bool, IsTrue, List, [], Some, slice_get, sym, ap, ◌∙◌, subst}
+use Rattle.std.proofs.Common.{◌≡◌, ℕ, Bool, true, IsTrue, List, [], Some, slice_get, inr, refl, sym, ap, ◌∙◌, subst}
 use Rattle.std.specs.Prelude.{◌↔◌}
 use Rattle.jv_types.specs.declared.access.Access.{Access}
 use Rattle.jv_types.specs.declared.ids.FieldId.{FieldId}
@@ -9,14 +9,15 @@ use Rattle.jv_types.specs.declared.references.MethodRef.{MethodRef}
 use Rattle.jv_types.specs.declared.shapes.FieldShape.{FieldShape}
 use Rattle.jv_types.specs.declared.shapes.MethodShape.{MethodShape}
 use Rattle.jv_types.specs.declared.shapes.Shape.{Shape}
-use Rattle.jv_types.specs.declared.frames.VType.{VType}
+use Rattle.jv_types.specs.declared.frames.VType.{VType, Class}
 use Rattle.jv_world.specs.Worlds.{IsWorld}
 use Rattle.jv_resolve.specs.Members.{IsField, IsMethod}
 use Rattle.jv_resolve.specs.Resolving.{ResolvesField, ResolvesMethod}
 use Rattle.jv_resolve.proofs.Hierarchy.{one_shape}
 use Rattle.jv_resolve.proofs.MembersLemmas.{one_method}
 use Rattle.jv_resolve.proofs.OneAnswer.{one_field, one_resolved}
-use Rattle.jv_typing.specs.References.{Site, PassesProtected, PassesForField, PassesForMethod}
+use Rattle.jv_frames.specs.Assignable.{same}
+use Rattle.jv_typing.specs.References.{Site, IsThisClass, PassesProtected, PassesForField, PassesForMethod}
 
 one_field_shape : (w : List Shape) (f : FieldId) (x y : FieldShape) → IsField w f x → IsField w f y → x ≡ y
 one_field_shape w f x y p q =
@@ -55,3 +56,13 @@ own_field w r f from b world resolves says = (
   λ t. (f, resolves, says.0 t),
   λ p. says.1 (ap (λ (g : FieldId). g.class.number) (one_field w r f p.0 world resolves p.1) ∙ p.2),
 )
+
+-- ---- a receiver of the current class
+
+pub passes_current_field : (w : List Shape) (site : Site) (r : FieldRef) (receiver : VType) (class : Shape) → IsThisClass w site class → receiver ≡ Class class.name
+    → IsTrue true ↔ PassesForField w site r receiver
+passes_current_field w site r receiver class this is = (λ t f x resolves at restricted. inr (class, this, same receiver (Class class.name) is), λ p. refl)
+
+pub passes_current_method : (w : List Shape) (site : Site) (r : MethodRef) (receiver : VType) (class : Shape) → IsThisClass w site class → receiver ≡ Class class.name
+    → IsTrue true ↔ PassesForMethod w site r receiver
+passes_current_method w site r receiver class this is = (λ t m x resolves at restricted. inr (class, this, same receiver (Class class.name) is), λ p. refl)

@@ -22,8 +22,7 @@ pub fn load_item(alloc: Global, step: &Step, prim: Prim) -> Result<Frame, NoTypi
     ensures rule { result ≡ Err none.Rule → HasNoTyping step.now (rules.LoadItem prim) }
 {
     let wanted = [VType::PrimArray(prim), VType::Integer];
-    let given = [prim_type(prim)];
-    goes(alloc, step, &wanted, &given)
+    goes(alloc, step, &wanted, Some(prim_type(prim)))
 }
 
 /// baload: from an array of bytes, or else of booleans.
@@ -44,7 +43,7 @@ pub fn store_item(alloc: Global, step: &Step, prim: Prim) -> Result<Frame, NoTyp
     ensures rule { result ≡ Err none.Rule → HasNoTyping step.now (rules.StoreItem prim) }
 {
     let wanted = [VType::PrimArray(prim), VType::Integer, prim_type(prim)];
-    goes(alloc, step, &wanted, &[])
+    goes(alloc, step, &wanted, None)
 }
 
 /// bastore: to an array of bytes, or else of booleans.
@@ -66,7 +65,7 @@ pub fn store_ref(alloc: Global, step: &Step) -> Result<Frame, NoTyping>
 {
     let array = VType::Array(Boxed::new(alloc, object_type(alloc)?)?);
     let wanted = [array, VType::Integer, object_type(alloc)?];
-    goes(alloc, step, &wanted, &[])
+    goes(alloc, step, &wanted, None)
 }
 
 /// What aaload loads of an array, if it may load of it: Null of null, and of an array of references one of
@@ -137,6 +136,5 @@ pub fn array_length(alloc: Global, step: &Step) -> Result<Frame, NoTyping>
         return Err(NoTyping::Rule);
     };
     let wanted = [array];
-    let given = [VType::Integer];
-    goes(alloc, step, &wanted, &given)
+    goes(alloc, step, &wanted, Some(VType::Integer))
 }

@@ -1,21 +1,23 @@
-ghost use Rattle.std.specs.Prelude.{◌≡◌, ◌<◌, ◌↔◌, IsTrue, IfOk, Err, length};
+ghost use Rattle.std.specs.Prelude.{◌≡◌, ◌<◌, ◌↔◌, ◌∷◌, IsTrue, IfOk, Err, length};
+ghost use Rattle.jv_insn.specs.Effects.{effect_of};
 ghost use Rattle.jv_types.specs.declared.frames.Frame.{Frame as FrameValue};
 ghost use Rattle.jv_frames.specs.Types.{ref_vtype};
 ghost use Rattle.jv_resolve.specs.Members.{init_name};
-ghost use Rattle.jv_typing.specs.References.{IsPlainName};
+ghost use Rattle.jv_typing.specs.References.{IsPlainName, param_types};
 ghost use Rattle.jv_typing.specs.declared.no_typing.NoTyping.TheVariants as none;
 ghost use Rattle.jv_typing.specs.declared.rules.RefRule.TheVariants as rules;
-ghost use Rattle.jv_verify_refs.specs.Steps.Parts.{HasTyping, HasNoTyping, CallsOn, CallsStatic, CallsInterface, CallsVirtual, CallsSpecial, CallsEither};
+ghost use Rattle.jv_verify_refs.specs.Steps.Parts.{Pops, HasTyping, HasNoTyping, CallsOn, CallsStatic, CallsInterface, CallsVirtual, CallsSpecial, CallsEither};
 
+use crate::frames::with_given;
 use crate::inits::call_constructor;
 use crate::operands::method_of;
 use crate::pops::{goes, popped};
 use crate::protected::{passes_for_method, this_type};
-use crate::receivers::receiver_below;
+use crate::receivers::word_at;
 use crate::step::Step;
-use crate::types::{param_types, param_words, result_types, with_params};
+use crate::types::{param_types, result_type, with_params};
 use jv_frames::{assignable, ref_vtype};
-use jv_types::{Frame, MethodRef, Name};
+use jv_types::{Frame, MethodRef, Name, VType};
 use jv_typing::NoTyping;
 use std::alloc::Global;
 
@@ -41,8 +43,8 @@ fn call_on_class(alloc: Global, step: &Step, method: &MethodRef) -> Result<Frame
 {
     let receiver = ref_vtype(alloc, &method.class)?;
     let wanted = with_params(alloc, receiver, &method.desc)?;
-    let given = result_types(alloc, &method.desc)?;
-    goes(alloc, step, wanted.as_slice(), given.as_slice())
+    let given = result_type(alloc, &method.desc)?;
+    goes(alloc, step, wanted.as_slice(), given)
 }
 
 /// invokestatic of a method.
@@ -54,8 +56,8 @@ fn call_static(alloc: Global, step: &Step, method: &MethodRef) -> Result<Frame, 
         return Err(NoTyping::Rule);
     }
     let wanted = param_types(alloc, &method.desc)?;
-    let given = result_types(alloc, &method.desc)?;
-    goes(alloc, step, wanted.as_slice(), given.as_slice())
+    let given = result_type(alloc, &method.desc)?;
+    goes(alloc, step, wanted.as_slice(), given)
 }
 
 /// invokeinterface of a method.
@@ -70,7 +72,30 @@ fn call_interface(alloc: Global, step: &Step, method: &MethodRef) -> Result<Fram
     }
 }
 
-/// invokevirtual of a method.
+/// invokevirtual of a method, where these words stand below its receiver and its arguments.
+fn call_above(
+    alloc: Global,
+    step: &Step,
+    method: &MethodRef,
+    below: &[VType],
+) -> Result<Frame, NoTyping>
+    requires from_here { step.now.from.number < length step.now.world.now }
+    requires plain { IsPlainName method.now.name }
+    requires pops { Pops step.now.world.now (effect_of step.now.insn.now).takes (ref_vtype method.now.class ∷ param_types method.now.desc) step.now.frame.now.stack below.now }
+    ensures typed { IfOk result (CallsVirtual step.now method.now) }
+    ensures rule { result ≡ Err none.Rule → (after : FrameValue) → CallsVirtual step.now method.now after → ⊥ }
+{
+    let Some(receiver) = word_at(step.frame.stack.as_slice(), below.len()) else {
+        return Err(NoTyping::Rule);
+    };
+    if !passes_for_method(alloc, step, method, receiver)? {
+        return Err(NoTyping::Rule);
+    }
+    let given = result_type(alloc, &method.desc)?;
+    with_given(alloc, step.frame, below, given, step.body.max_stack)
+}
+
+/// invokevirtual of a method. Its receiver stands right above the words that are left.
 fn call_virtual(alloc: Global, step: &Step, method: &MethodRef) -> Result<Frame, NoTyping>
     requires { step.now.from.number < length step.now.world.now }
     ensures typed { IfOk result (CallsVirtual step.now method.now) }
@@ -79,14 +104,12 @@ fn call_virtual(alloc: Global, step: &Step, method: &MethodRef) -> Result<Frame,
     if !is_plain(&method.name) {
         return Err(NoTyping::Rule);
     }
-    let count = param_words(alloc, &method.desc)?;
-    let Some(receiver) = receiver_below(step.frame.stack.as_slice(), count) else {
-        return Err(NoTyping::Rule);
-    };
-    if !passes_for_method(alloc, step, method, receiver)? {
-        return Err(NoTyping::Rule);
+    let receiver = ref_vtype(alloc, &method.class)?;
+    let wanted = with_params(alloc, receiver, &method.desc)?;
+    match popped(alloc, step, wanted.as_slice(), step.frame.stack.as_slice()) {
+        Ok(below) => call_above(alloc, step, method, below),
+        Err(e) => Err(e),
     }
-    call_on_class(alloc, step, method)
 }
 
 /// invokespecial of a method that is no constructor.

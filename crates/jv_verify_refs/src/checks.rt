@@ -21,7 +21,7 @@ pub fn take_refs(alloc: Global, step: &Step) -> Result<Frame, NoTyping>
 {
     let cells = cells_taken(alloc, step.insn)?;
     let wanted = tops(alloc, cells.as_slice())?;
-    goes(alloc, step, wanted.as_slice(), &[])
+    goes(alloc, step, wanted.as_slice(), None)
 }
 
 /// athrow.
@@ -30,7 +30,7 @@ pub fn throw(alloc: Global, step: &Step) -> Result<Frame, NoTyping>
     ensures rule { result ≡ Err none.Rule → HasNoTyping step.now rules.Throw }
 {
     let wanted = [throwable_type(alloc)?];
-    goes(alloc, step, &wanted, &[])
+    goes(alloc, step, &wanted, None)
 }
 
 /// checkcast.
@@ -42,8 +42,7 @@ pub fn check_cast(alloc: Global, step: &Step) -> Result<Frame, NoTyping>
         return Err(NoTyping::Rule);
     };
     let wanted = [object_type(alloc)?];
-    let given = [ref_vtype(alloc, of)?];
-    goes(alloc, step, &wanted, &given)
+    goes(alloc, step, &wanted, Some(ref_vtype(alloc, of)?))
 }
 
 /// instanceof.
@@ -55,8 +54,7 @@ pub fn instance_of(alloc: Global, step: &Step) -> Result<Frame, NoTyping>
         return Err(NoTyping::Rule);
     };
     let wanted = [object_type(alloc)?];
-    let given = [VType::Integer];
-    goes(alloc, step, &wanted, &given)
+    goes(alloc, step, &wanted, Some(VType::Integer))
 }
 
 /// newarray.
@@ -68,8 +66,7 @@ pub fn new_array(alloc: Global, step: &Step) -> Result<Frame, NoTyping>
         return Err(NoTyping::Rule);
     };
     let wanted = [VType::Integer];
-    let given = [VType::PrimArray(prim)];
-    goes(alloc, step, &wanted, &given)
+    goes(alloc, step, &wanted, Some(VType::PrimArray(prim)))
 }
 
 /// anewarray.
@@ -81,8 +78,8 @@ pub fn new_ref_array(alloc: Global, step: &Step) -> Result<Frame, NoTyping>
         return Err(NoTyping::Rule);
     };
     let wanted = [VType::Integer];
-    let given = [VType::Array(Boxed::new(alloc, ref_vtype(alloc, of)?)?)];
-    goes(alloc, step, &wanted, &given)
+    let array = VType::Array(Boxed::new(alloc, ref_vtype(alloc, of)?)?);
+    goes(alloc, step, &wanted, Some(array))
 }
 
 /// multianewarray.
@@ -94,6 +91,5 @@ pub fn new_multi_array(alloc: Global, step: &Step) -> Result<Frame, NoTyping>
         return Err(NoTyping::Rule);
     };
     let wanted = ints(alloc, dims)?;
-    let given = [ref_vtype(alloc, of)?];
-    goes(alloc, step, wanted.as_slice(), &given)
+    goes(alloc, step, wanted.as_slice(), Some(ref_vtype(alloc, of)?))
 }

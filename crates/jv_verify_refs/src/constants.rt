@@ -16,8 +16,7 @@ pub fn push_null(alloc: Global, step: &Step) -> Result<Frame, NoTyping>
     ensures typed { IfOk result (HasTyping step.now rules.PushNull) }
     ensures rule { result ≡ Err none.Rule → HasNoTyping step.now rules.PushNull }
 {
-    let given = [VType::Null];
-    goes(alloc, step, &[], &given)
+    goes(alloc, step, &[], Some(VType::Null))
 }
 
 /// ldc and ldc_w.
@@ -29,10 +28,7 @@ pub fn push_constant(alloc: Global, step: &Step) -> Result<Frame, NoTyping>
         return Err(NoTyping::Rule);
     };
     match const_type(alloc, constant)? {
-        Some(of) => {
-            let given = [of];
-            goes(alloc, step, &[], &given)
-        }
+        Some(of) => goes(alloc, step, &[], Some(of)),
         None => Err(NoTyping::Rule),
     }
 }

@@ -26,8 +26,7 @@ pub fn get_static(alloc: Global, step: &Step) -> Result<Frame, NoTyping>
     let Some(field) = field_of(&step.insn.arg) else {
         return Err(NoTyping::Rule);
     };
-    let given = [desc_vtype(alloc, &field.desc)?];
-    goes(alloc, step, &[], &given)
+    goes(alloc, step, &[], Some(desc_vtype(alloc, &field.desc)?))
 }
 
 /// putstatic.
@@ -39,7 +38,7 @@ pub fn put_static(alloc: Global, step: &Step) -> Result<Frame, NoTyping>
         return Err(NoTyping::Rule);
     };
     let wanted = [desc_vtype(alloc, &field.desc)?];
-    goes(alloc, step, &wanted, &[])
+    goes(alloc, step, &wanted, None)
 }
 
 /// getfield of a field.
@@ -55,8 +54,7 @@ fn get_from(alloc: Global, step: &Step, field: &FieldRef) -> Result<Frame, NoTyp
         return Err(NoTyping::Rule);
     }
     let wanted = [VType::Class(field.class.copy()?)];
-    let given = [desc_vtype(alloc, &field.desc)?];
-    goes(alloc, step, &wanted, &given)
+    goes(alloc, step, &wanted, Some(desc_vtype(alloc, &field.desc)?))
 }
 
 /// getfield.
@@ -77,7 +75,7 @@ fn put_to(alloc: Global, step: &Step, field: &FieldRef) -> Result<Frame, NoTypin
     ensures typed { IfOk result (PutsField step.now field.now) }
     ensures rule { result ≡ Err none.Rule → (after : FrameValue) → PutsField step.now field.now after → ⊥ }
 {
-    let count = value_words(alloc, &field.desc)?;
+    let count = value_words(&field.desc);
     let Some(receiver) = receiver_below(step.frame.stack.as_slice(), count) else {
         return Err(NoTyping::Rule);
     };
@@ -88,7 +86,7 @@ fn put_to(alloc: Global, step: &Step, field: &FieldRef) -> Result<Frame, NoTypin
         VType::Class(field.class.copy()?),
         desc_vtype(alloc, &field.desc)?,
     ];
-    goes(alloc, step, &wanted, &[])
+    goes(alloc, step, &wanted, None)
 }
 
 /// Whether the two are the same class.
@@ -131,7 +129,7 @@ fn put_own(alloc: Global, step: &Step, field: &FieldRef) -> Result<Frame, NoTypi
         return Err(NoTyping::Rule);
     }
     let wanted = [VType::UninitThis, desc_vtype(alloc, &field.desc)?];
-    goes(alloc, step, &wanted, &[])
+    goes(alloc, step, &wanted, None)
 }
 
 /// putfield of a field.

@@ -22,4 +22,4 @@ mod returns;
 mod step;
 mod types;
 
-pub use refs::ref_step;
+pub use refs::{ref_insn_step, ref_step};

@@ -32,27 +32,38 @@ fn is_restricted(step: &Step, declarer: ClassId, flags: Access) -> bool
         && !are_in_one_package(step.world, step.from, declarer)
 }
 
+/// Whether a receiver is of the current class itself. No member is protected from it.
+fn is_current(step: &Step, receiver: &VType) -> bool
+    requires { step.now.from.number < length step.now.world.now }
+    ensures { IsTrue result → (class : Shape) × IsThisClass step.now.world.now (site_of step.now) class × (receiver.now ≡ Class class.name) }
+{
+    match receiver {
+        VType::Class(name) => *name == step.world.shape(step.from).name,
+        _ => false,
+    }
+}
+
 /// Whether a receiver passes the check for a protected member of this class and name.
 fn passes_protected(
+    alloc: Global,
     step: &Step,
-    current: &VType,
     declarer: ClassId,
     flags: Access,
     name: &[u8],
     receiver: &VType,
-) -> bool
+) -> Result<bool, AllocError>
     requires from_here { step.now.from.number < length step.now.world.now }
     requires declarer_here { declarer.number < length step.now.world.now }
-    requires current { (class : Shape) × IsThisClass step.now.world.now (site_of step.now) class × (current.now ≡ Class class.name) }
-    ensures { IsTrue result ↔ PassesProtected step.now.world.now (site_of step.now) declarer.number flags name.now receiver.now }
+    ensures { IfOk result (λ passes. IsTrue passes ↔ PassesProtected step.now.world.now (site_of step.now) declarer.number flags name.now receiver.now) }
 {
     if !is_restricted(step, declarer, flags) {
-        return true;
+        return Ok(true);
     }
     if is_array(receiver) && name == b"clone".as_slice() {
-        return true;
+        return Ok(true);
     }
-    assignable(step.world, receiver, current)
+    let current = this_type(alloc, step)?;
+    Ok(assignable(step.world, receiver, &current))
 }
 
 /// Whether a receiver passes the check for the field that a reference resolves to.
@@ -65,12 +76,14 @@ pub fn passes_for_field(
     requires { step.now.from.number < length step.now.world.now }
     ensures { IfOk result (λ passes. IsTrue passes ↔ PassesForField step.now.world.now (site_of step.now) r.now receiver.now) }
 {
+    if is_current(step, receiver) {
+        return Ok(true);
+    }
     let Some(f) = resolved_field(alloc, step.world, r)? else {
         return Ok(true);
     };
-    let current = this_type(alloc, step)?;
     let flags = field_flags(step.world, f);
-    Ok(passes_protected(step, &current, f.class, flags, &[], receiver))
+    passes_protected(alloc, step, f.class, flags, &[], receiver)
 }
 
 /// Whether a receiver passes the check for the method that a reference resolves to.
@@ -83,11 +96,12 @@ pub fn passes_for_method(
     requires { step.now.from.number < length step.now.world.now }
     ensures { IfOk result (λ passes. IsTrue passes ↔ PassesForMethod step.now.world.now (site_of step.now) r.now receiver.now) }
 {
+    if is_current(step, receiver) {
+        return Ok(true);
+    }
     let Some(m) = resolved_method(alloc, step.world, r)? else {
         return Ok(true);
     };
-    let current = this_type(alloc, step)?;
     let flags = method_flags(step.world, m);
-    let name = r.name.as_slice();
-    Ok(passes_protected(step, &current, m.class, flags, name, receiver))
+    passes_protected(alloc, step, m.class, flags, r.name.as_slice(), receiver)
 }

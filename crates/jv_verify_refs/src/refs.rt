@@ -1,4 +1,5 @@
-ghost use Rattle.std.specs.Prelude.{◌≡◌, ◌<◌, IfOk, Err, length};
+ghost use Rattle.std.specs.Prelude.{◌≡◌, ◌<◌, IfOk, Err, Some, length};
+ghost use Rattle.jv_types.specs.Bodies.{at_offset};
 ghost use Rattle.jv_types.specs.declared.frames.Frame.{Frame as FrameValue};
 ghost use Rattle.jv_resolve.specs.Members.{HasMethod};
 ghost use Rattle.jv_typing.specs.declared.no_typing.NoTyping.TheVariants as none;
@@ -19,7 +20,7 @@ use crate::moves::move_words;
 use crate::objects::make;
 use crate::returns::{return_value, return_void};
 use crate::step::Step;
-use jv_types::{Body, ClassId, Frame, MethodId};
+use jv_types::{Body, ClassId, Frame, Insn, MethodId};
 use jv_typing::{NoTyping, RefRule, ref_rule};
 use jv_world::World;
 use std::alloc::Global;
@@ -65,6 +66,39 @@ fn by_rule(alloc: Global, step: &Step, rule: RefRule) -> Result<Frame, NoTyping>
     }
 }
 
+/// The frame after this instruction, which stands at an offset of a method's code: what `ref_step` answers there,
+/// where the instruction is at hand already.
+pub fn ref_insn_step(
+    alloc: Global,
+    world: &World,
+    from: ClassId,
+    method: MethodId,
+    body: &Body,
+    frame: &Frame,
+    pc: u16,
+    insn: &Insn,
+) -> Result<Frame, NoTyping>
+    requires from_here { from.number < length world.now }
+    requires method_here { HasMethod world.now method }
+    requires stands { at_offset pc body.now.insns ≡ Some insn.now }
+    ensures typed { IfOk result (LeadsTo world.now (site from.number method body.now pc) frame.now) }
+    ensures rule { result ≡ Err none.Rule → (after : FrameValue) → LeadsTo world.now (site from.number method body.now pc) frame.now after → ⊥ }
+{
+    let Some(rule) = ref_rule(insn.op) else {
+        return Err(NoTyping::Rule);
+    };
+    let step = Step {
+        world,
+        from,
+        method,
+        body,
+        pc,
+        insn,
+        frame,
+    };
+    by_rule(alloc, &step, rule)
+}
+
 /// The frame after the instruction at an offset of a method's code, as the verifier has it (JVMS 4.10.1.9);
 /// after a return or athrow the frame with its operand popped. The class `from` is the one whose code it is. It
 /// is `NoTyping::Rule` exactly where the instruction has no typing on the frame, where it is none that works on
@@ -86,17 +120,5 @@ pub fn ref_step(
     let Some(insn) = body.at(pc) else {
         return Err(NoTyping::Rule);
     };
-    let Some(rule) = ref_rule(insn.op) else {
-        return Err(NoTyping::Rule);
-    };
-    let step = Step {
-        world,
-        from,
-        method,
-        body,
-        pc,
-        insn,
-        frame,
-    };
-    by_rule(alloc, &step, rule)
+    ref_insn_step(alloc, world, from, method, body, frame, pc, insn)
 }

@@ -22,7 +22,7 @@ pub fn return_value(alloc: Global, step: &Step) -> Result<Frame, NoTyping>
     match &shape.desc.result {
         Some(of) => {
             let wanted = [desc_vtype(alloc, of)?];
-            goes(alloc, step, &wanted, &[])
+            goes(alloc, step, &wanted, None)
         }
         None => Err(NoTyping::Rule),
     }
@@ -41,5 +41,5 @@ pub fn return_void(alloc: Global, step: &Step) -> Result<Frame, NoTyping>
     if step.frame.this_uninit {
         return Err(NoTyping::Rule);
     }
-    goes(alloc, step, &[], &[])
+    goes(alloc, step, &[], None)
 }

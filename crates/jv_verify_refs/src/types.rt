@@ -1,4 +1,5 @@
 ghost use Rattle.std.specs.Prelude.{◌≡◌, ◌∷◌, ◌++◌, [], length, map, replicate, IfOk, OnOk, Some, None};
+ghost use Rattle.std.specs.Option.{option_to_list};
 ghost use Rattle.jv_types.specs.declared.desc.Desc.TheVariants as descs;
 ghost use Rattle.jv_types.specs.declared.frames.VType.{Class, Top, Integer};
 ghost use Rattle.jv_frames.specs.Types.{desc_vtype, in_words, is_array};
@@ -107,14 +108,13 @@ fn push_params(alloc: Global, types: &mut Vec<VType>, descs: &[Desc]) -> Result<
 }
 
 /// The type of a method's result, where it has one.
-pub fn result_types(alloc: Global, desc: &MethodDesc) -> Result<Vec<VType>, AllocError>
-    ensures { IfOk result (λ types. types.items ≡ result_types desc.now.result) }
+pub fn result_type(alloc: Global, desc: &MethodDesc) -> Result<Option<VType>, AllocError>
+    ensures { IfOk result (λ made. option_to_list made ≡ result_types desc.now.result) }
 {
-    let mut types = Vec::new(alloc);
-    if let Some(of) = &desc.result {
-        types.push(desc_vtype(alloc, of)?)?;
+    match &desc.result {
+        None => Ok(None),
+        Some(of) => Ok(Some(desc_vtype(alloc, of)?)),
     }
-    Ok(types)
 }
 
 /// Top for each cell: any reference is assignable to it.
@@ -149,10 +149,13 @@ pub fn param_words(alloc: Global, desc: &MethodDesc) -> Result<usize, AllocError
 }
 
 /// How many words a value of a type takes.
-pub fn value_words(alloc: Global, desc: &Desc) -> Result<usize, AllocError>
-    ensures { IfOk result (λ count. count ≡ length (in_words (desc_vtype desc.now ∷ []))) }
+pub fn value_words(desc: &Desc) -> usize
+    ensures { result ≡ length (in_words (desc_vtype desc.now ∷ [])) }
 {
-    let types = [desc_vtype(alloc, desc)?];
-    let words = in_words(alloc, &types)?;
-    Ok(words.as_slice().len())
+    match desc {
+        Desc::Prim(Prim::Long) => 2,
+        Desc::Prim(Prim::Double) => 2,
+        Desc::Prim(_) => 1,
+        Desc::Ref(_) => 1,
+    }
 }

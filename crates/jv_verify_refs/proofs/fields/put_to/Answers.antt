@@ -10,13 +10,13 @@ use Rattle.jv_verify_refs.proofs.fields.put_to.Goals as goal
 
 pub returns-in_default-clause-rule : goal.returns-in_default-clause-rule
 returns-in_default-clause-rule c = λ is after h.
-    let none = rw (c.as_slice.ensures, c.in_ok-count.ensures) at c.in_default.ensures.none in
+    let none = rw (c.as_slice.ensures, c.value_words-count.ensures) at c.in_default.ensures.none in
     none h.receiver h.stands
 
 pub returns-then-not-branch-clause-rule : goal.returns-then-not-branch-clause-rule
 returns-then-not-branch-clause-rule c = λ is after h.
     let s = c.args.step.now in
-    let stands = rw (c.as_slice.ensures, c.in_ok-count.ensures) at c.in-Some.ensures.found in
+    let stands = rw (c.as_slice.ensures, c.value_words-count.ensures) at c.in-Some.ensures.found in
     denied c.in_ok-passes_for_field.field-0 c.if-not-branch.true c.in_ok-passes_for_field.ensures.1
     (subst (λ (t : VType). PassesForField s.world.now (site_of s) c.args.field.now t) (one_receiver (length (in_words (desc_vtype c.args.field.now.desc ∷ []))) s.frame.now.stack h.receiver c.in-Some.receiver.now h.stands stands) h.passes)
 
@@ -24,7 +24,7 @@ pub returns-clause-typed : goal.returns-clause-typed
 returns-clause-typed c =
     let s = c.args.step.now in
     let field = c.args.field.now in
-    let stands = rw (c.as_slice.ensures, c.in_ok-count.ensures) at c.in-Some.ensures.found in
+    let stands = rw (c.as_slice.ensures, c.value_words-count.ensures) at c.in-Some.ensures.found in
     IfOk-weaker c.goes.result (StepGoes s (Class field.class ∷ desc_vtype field.desc ∷ []) []) (PutsField s field) (λ after g. record {
       receiver = c.in-Some.receiver.now;
       stands = stands;

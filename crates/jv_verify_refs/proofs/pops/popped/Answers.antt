@@ -8,14 +8,14 @@ returns-in_default-clause-rule c = λ is.
     no_cells c.args.step.now.world.now (effect_of c.args.step.now.insn.now).takes c.args.wanted.now c.args.stack.now
     (rw (c.as_slice.ensures.value, c.in_ok-cells.ensures) at c.in_default.ensures.none)
 
-pub returns-then-are_assignable-clause-typed : goal.returns-then-are_assignable-clause-typed
-returns-then-are_assignable-clause-typed c =
+pub returns-clause-typed : goal.returns-clause-typed
+returns-clause-typed c =
     pops_of c.args.step.now.world.now (effect_of c.args.step.now.insn.now).takes c.args.wanted.now c.args.stack.now c.in-Some.below.now
     (rw (c.as_slice.ensures.value, c.in_ok-cells.ensures) at c.in-Some.ensures.found)
-    (rw (c.split_at.ensures.back, c.as_slice-2.ensures.value, c.in_ok-words.ensures) at c.are_assignable.ensures.0 c.if-are_assignable.true)
+    (rw c.split_at.ensures.back at (c.in_ok-are_values.ensures.0 c.if-not-branch.false))
 
-pub returns-clause-rule : goal.returns-clause-rule
-returns-clause-rule c = λ is.
+pub returns-then-not-branch-clause-rule : goal.returns-then-not-branch-clause-rule
+returns-then-not-branch-clause-rule c = λ is.
     no_fits c.args.step.now.world.now (effect_of c.args.step.now.insn.now).takes c.args.wanted.now c.args.stack.now c.in-Some.below.now
     (rw (c.as_slice.ensures.value, c.in_ok-cells.ensures) at c.in-Some.ensures.found)
-    (rw (c.split_at.ensures.back, c.as_slice-2.ensures.value, c.in_ok-words.ensures) at (denied c.are_assignable.result c.if-are_assignable.false c.are_assignable.ensures.1))
+    (rw c.split_at.ensures.back at (denied c.in_ok-are_values.field-0 c.if-not-branch.true c.in_ok-are_values.ensures.1))
