@@ -19,7 +19,7 @@ use Rattle.av_collected.specs.Naming.{Application}
 use Rattle.av_collected.specs.Rules.{MethodAt, IsCollected}
 use Rattle.av_program.specs.declared.program.Program.{Program}
 use Rattle.av_app_files.specs.Folders.{Folders}
-use Rattle.av_app_files.specs.FileRules.{HasReservedName, most_file_bytes}
+use Rattle.av_app_files.specs.FileRules.{HasReservedName}
 use Rattle.av_stops.specs.Applications.{IsGivenBy}
 use Rattle.av_stops.specs.FirstStops.{IsTyped, insns_in, program_world}
 use Rattle.av_stops.specs.LibraryFolders.{IsStated}
@@ -43,7 +43,7 @@ pub record IsProgram (folders : Folders) (main : Option (List ℕ)) (program : P
 
 -- ---- what is known of each accepted program
 
--- a class that some class file of no more bytes than it may have is the text of
+-- a class that some class file is the text of
 abbrev pub IsOfFile : ClassFile → Type 0
 IsOfFile class = (bytes : List ℕ) × ClassText class bytes
 
