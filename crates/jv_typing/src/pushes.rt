@@ -18,7 +18,7 @@ pub fn stack_with(
     ensures room { IfOk result (λ stack. length stack ≤ max_stack) }
     ensures rule { result ≡ Err none.Rule → max_stack < length (below.now ++ given.now) }
 {
-    let mut words = Vec::new(alloc);
+    let mut words = Vec::with_capacity(alloc, below.len().saturating_add(given.len()))?;
     push_copies(alloc, &mut words, below)?;
     push_copies(alloc, &mut words, given)?;
     if words.len() <= usize::from(max_stack) {

@@ -52,7 +52,7 @@ pub fn stored(
     }
     let (before, rest) = locals.split_at(local);
     let (_, behind) = rest.split_at(words.len());
-    let mut after = Vec::new(alloc);
+    let mut after = Vec::with_capacity(alloc, locals.len())?;
     push_halved(alloc, &mut after, before)?;
     push_copies(alloc, &mut after, words)?;
     push_copies(alloc, &mut after, behind)?;
@@ -63,7 +63,7 @@ pub fn stored(
 pub fn copied(alloc: Global, words: &[VType]) -> Result<Seq<VType>, AllocError>
     ensures { IfOk result (λ copies. copies ≡ words.now) }
 {
-    let mut copies = Vec::new(alloc);
+    let mut copies = Vec::with_capacity(alloc, words.len())?;
     push_copies(alloc, &mut copies, words)?;
     Ok(Seq::from_vec(copies))
 }

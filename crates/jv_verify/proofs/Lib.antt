@@ -1,4 +1,5 @@
 mod Each
+mod Places
 mod Itself
 mod Covering
 mod Targets

@@ -7,27 +7,28 @@ ghost use Rattle.jv_verify.specs.Steps.Forcing.{AreForced};
 
 use crate::goes::{fits_at_targets, fits_on};
 use crate::handlers::{earlier, first_unhandled};
+use crate::near::row_near;
 use crate::next::handed_on;
-use crate::rows::row_at;
 use crate::step::step;
 use jv_types::{Arg, Body, Frame, Insn, MethodId};
 use jv_typing::NoTyping;
 use jv_world::World;
 use std::alloc::{AllocError, Global};
 
-/// Whether a frame stands at the next instruction, and fits at the targets too.
-fn is_handed_right(world: &World, rows: &[(u16, Frame)], next: u16, arg: &Arg) -> bool
+/// Whether a frame stands at the next instruction, which mostly stands at this place, and fits at the targets too.
+fn is_handed_right(world: &World, rows: &[(u16, Frame)], place: usize, next: u16, arg: &Arg) -> bool
     requires rising { IsTrue (rises_from 0 rows.now) }
     ensures { IsTrue result ↔ ((after : FrameValue) × StandsIn rows.now next after × FitsAtEach world.now rows.now (arg_targets arg.now) after) }
 {
-    match row_at(rows, next) {
+    match row_near(rows, place, next) {
         None => false,
         Some(after) => fits_at_targets(world, rows, arg, after),
     }
 }
 
 /// Whether an instruction is typed on the table's frame, and what it leaves fits at the next instruction and at
-/// its targets; else it fails there. Where no map stands at the next one, what it leaves was forced there.
+/// its targets; else it fails there. Where no map stands at the next one, what it leaves was forced there. The row
+/// and the instruction mostly stand at this place.
 fn is_typed(
     alloc: Global,
     world: &World,
@@ -35,6 +36,7 @@ fn is_typed(
     body: &Body,
     maps: &[(u32, Frame)],
     rows: &[(u16, Frame)],
+    place: usize,
     row: &(u16, Insn),
 ) -> Result<bool, AllocError>
     requires method { HasMethod world.now method }
@@ -44,11 +46,11 @@ fn is_typed(
     requires stands { at_offset row.now.0 body.now.insns ≡ Some row.now.1 }
     ensures { IfOk result (Decides world.now method body.now rows.now row.now) }
 {
-    let Some(frame) = row_at(rows, row.0) else {
+    let Some(frame) = row_near(rows, place, row.0) else {
         return Ok(false);
     };
-    if let Some(next) = handed_on(body, maps, row.0, row.1.op) {
-        return Ok(is_handed_right(world, rows, next, &row.1.arg));
+    if let Some(next) = handed_on(body, maps, place, row.0, row.1.op) {
+        return Ok(is_handed_right(world, rows, place.saturating_add(1), next, &row.1.arg));
     }
     match step(alloc, world, method, body, frame, row.0, &row.1) {
         Ok(after) => Ok(fits_on(world, body, rows, row, &after)),
@@ -73,10 +75,12 @@ fn first_untyped(
     requires forced { AreForced world.now method body.now maps.now rows.now }
     ensures { IfOk result (IsLeastBad (IsTypedIf world.now method body.now rows.now) (FailsItself world.now method body.now rows.now)) }
 {
+    let mut place = 0usize;
     for row in body.insns.as_slice() {
-        if !is_typed(alloc, world, method, body, maps, rows, row)? {
+        if !is_typed(alloc, world, method, body, maps, rows, place, row)? {
             return Ok(Some(row.0));
         }
+        place = place.saturating_add(1);
     }
     Ok(None)
 }

@@ -35,6 +35,7 @@ fn left_by(
     body: &Body,
     maps: &[(u32, Frame)],
     here: &Option<Frame>,
+    place: usize,
     pc: u16,
     insn: &Insn,
 ) -> Result<Option<Frame>, AllocError>
@@ -46,7 +47,7 @@ fn left_by(
     let Some(frame) = here else {
         return Ok(None);
     };
-    let Some(_) = handed_on(body, maps, pc, insn.op) else {
+    let Some(_) = handed_on(body, maps, place, pc, insn.op) else {
         return Ok(None);
     };
     match step(alloc, world, method, body, frame, pc, insn) {
@@ -80,12 +81,16 @@ pub fn forced_frames(
     requires rising { IsTrue (rises_from 0 maps.now) }
     ensures { IfOk result (λ rows. AreForcedFrom world.now method body.now maps.now begun body.now.insns rows.items) }
 {
-    let mut rows = Vec::new(alloc);
+    let mut rows = Vec::with_capacity(alloc, body.insns.len())?;
     let mut left = begun;
+    let mut place = 0usize;
     for row in body.insns.as_slice() {
         let here = forced_here(maps, row.0, left)?;
-        left = left_by(alloc, world, method, body, maps, &here, row.0, &row.1)?;
+        left = left_by(
+            alloc, world, method, body, maps, &here, place, row.0, &row.1,
+        )?;
         put(&mut rows, row.0, here)?;
+        place = place.saturating_add(1);
     }
     Ok(rows)
 }

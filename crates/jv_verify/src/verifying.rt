@@ -47,20 +47,20 @@ fn framed(
     alloc: Global,
     world: &World,
     id: MethodId,
-    body: &Body,
+    body: Body,
     maps: &[(u32, Frame)],
 ) -> Result<FramedBody, VerifyRefusal>
     requires method { HasMethod world.now id }
-    requires ready { IsReady body.now maps.now }
+    requires ready { IsReady body maps.now }
     ensures method { IfOk result (λ framed. framed.method ≡ id) }
-    ensures body { IfOk result (λ framed. framed.body ≡ body.now) }
-    ensures typed { IfOk result (λ framed. IsTypeSafe world.now id body.now maps.now framed.frames) }
-    ensures refused { IfErr result (RefusedBy rules.TypeRule (FailsLeastAt world.now id body.now maps.now)) }
+    ensures body { IfOk result (λ framed. framed.body ≡ body) }
+    ensures typed { IfOk result (λ framed. IsTypeSafe world.now id body maps.now framed.frames) }
+    ensures refused { IfErr result (RefusedBy rules.TypeRule (FailsLeastAt world.now id body maps.now)) }
 {
-    match table_of(alloc, world, id, body, maps) {
+    match table_of(alloc, world, id, &body, maps) {
         Ok(rows) => Ok(FramedBody {
             method: id,
-            body: body.copy()?,
+            body,
             frames: Seq::from_vec(rows),
         }),
         Err(NoTable::At { pc }) => Err(VerifyRefusal::At {
@@ -68,6 +68,30 @@ fn framed(
             pc: u32::from(pc),
         }),
         Err(NoTable::Memory) => Err(VerifyRefusal::Memory),
+    }
+}
+
+/// Verifies a method of a class file, as `verify` does, and takes its body, which is not copied.
+pub fn verify_body(
+    alloc: Global,
+    world: &World,
+    class: &ClassFile,
+    id: MethodId,
+    body: Body,
+) -> Result<FramedBody, VerifyRefusal>
+    requires method { HasMethod world.now id }
+    requires distinct { AreDistinct class.now.pool class.now.methods }
+    requires has { HasBody world.now class.now id body }
+    ensures verified { IfOk result (IsVerified world.now class.now id body) }
+    ensures refused { IfErr result (IsCause world.now class.now id body) }
+{
+    // the class file has the method's code, so the other way is never gone
+    let Some(code) = code_of(alloc, world, class, id)? else {
+        return Err(VerifyRefusal::Memory);
+    };
+    match maps_of(alloc, world, id, &class.pool, code, &body) {
+        Ok(maps) => framed(alloc, world, id, body, maps.as_slice()),
+        Err(refusal) => Err(refusal),
     }
 }
 
@@ -89,12 +113,6 @@ pub fn verify(
     ensures verified { IfOk result (IsVerified world.now class.now id body.now) }
     ensures refused { IfErr result (IsCause world.now class.now id body.now) }
 {
-    // the class file has the method's code, so the other way is never gone
-    let Some(code) = code_of(alloc, world, class, id)? else {
-        return Err(VerifyRefusal::Memory);
-    };
-    match maps_of(alloc, world, id, &class.pool, code, body) {
-        Ok(maps) => framed(alloc, world, id, body, maps.as_slice()),
-        Err(refusal) => Err(refusal),
-    }
+    let whole = body.copy()?;
+    verify_body(alloc, world, class, id, whole)
 }

@@ -4,7 +4,7 @@ ghost use Rattle.jv_verify_words.specs.Parts.{number_words, numbers_words};
 
 use jv_table::Cell;
 use jv_types::{Seq, VType};
-use jv_typing::{NoTyping, stack_with};
+use jv_typing::{NoTyping, push_copies};
 use std::alloc::{AllocError, Global};
 
 /// Puts the words of a number at the end.
@@ -37,15 +37,6 @@ fn push_numbers(words: &mut Vec<VType>, cells: &[Cell]) -> Result<(), AllocError
     Ok(())
 }
 
-/// The words of numbers. Only memory can be wanting.
-fn numbers_words(alloc: Global, cells: &[Cell]) -> Result<Vec<VType>, AllocError>
-    ensures { IfOk result (λ words. words.items ≡ numbers_words cells.now) }
-{
-    let mut words = Vec::new(alloc);
-    push_numbers(&mut words, cells)?;
-    Ok(words)
-}
-
 /// The stack of these words and of numbers on top of them, where it has at most so many words.
 pub fn stack_after(
     alloc: Global,
@@ -57,6 +48,13 @@ pub fn stack_after(
     ensures room { IfOk result (λ stack. length stack ≤ max_stack) }
     ensures rule { result ≡ Err none.Rule → max_stack < length (below.now ++ numbers_words gives.now) }
 {
-    let given = numbers_words(alloc, gives)?;
-    stack_with(alloc, below, given.as_slice(), max_stack)
+    let room = gives.len().saturating_mul(2);
+    let mut words = Vec::with_capacity(alloc, below.len().saturating_add(room))?;
+    push_copies(alloc, &mut words, below)?;
+    push_numbers(&mut words, gives)?;
+    if words.len() <= usize::from(max_stack) {
+        Ok(Seq::from_vec(words))
+    } else {
+        Err(NoTyping::Rule)
+    }
 }
