@@ -1,5 +1,5 @@
 -- What the reads of a host leave of it, and which reads are made.
-use Rattle.std.specs.Prelude.{◌≡◌, ◌≤◌, ℕ, ⊤, List, Option, Some, Result, Ok, Err, IfSome, Contains}
+use Rattle.std.specs.Prelude.{◌≡◌, ◌≤◌, ◌++◌, ℕ, ⊤, List, Option, Some, Result, Ok, Err, IfSome, option_map, All, Contains}
 use Rattle.jv_host.specs.declared.host.HostCall.{HostCall}
 use Rattle.jv_host.specs.declared.host.HostCall.TheVariants as calls
 use Rattle.jv_host.specs.declared.host.HostFile.{HostFile}
@@ -8,11 +8,12 @@ use Rattle.jv_host.specs.Files.{class_names}
 use Rattle.av_program.specs.declared.accept_stop.AcceptStop.{AcceptStop}
 use Rattle.av_program.specs.declared.accept_stop.AcceptStop.TheVariants as stops
 
--- what a host tells of itself: its files, what was written, the last call that failed, and how often reads and writes
--- failed
+-- what a host tells of itself: its files, what was written, the calls that answered, the last one that failed, and how
+-- often reads and writes failed
 pub record HostView : Type 0 where
   pub files : Option (List HostFile)
   pub written : Option (List HostFile)
+  pub calls : Option (List HostCall)
   pub failed : Option (Option HostCall)
   pub read_faults : ℕ
   pub write_faults : ℕ
@@ -23,6 +24,12 @@ pub record KeepsFiles (before after : HostView) : Type 0 where
   pub written : after.written ≡ before.written
   pub write_faults : after.write_faults ≡ before.write_faults
   pub never_falls : before.read_faults ≤ after.read_faults
+
+-- Calls were made, each one that may be made. A host that tells its calls has them behind those before.
+pub record Makes (May : HostCall → Type 0) (before after : HostView) : Type 0 where
+  pub made : List HostCall
+  pub each : All May made
+  pub told : after.calls ≡ option_map (λ earlier. earlier ++ made) before.calls
 
 -- no read failed
 pub record FailsNot (before after : HostView) : Type 0 where

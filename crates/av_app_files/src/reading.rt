@@ -1,7 +1,7 @@
 ghost use Rattle.std.specs.Prelude.{◌≡◌, ◌≤◌, ℕ, Some, vec_len, take, option_map, IfOk, IfErr, IfSome};
 ghost use Rattle.jv_host.specs.declared.host.HostCall.TheVariants as calls;
 ghost use Rattle.jv_host.specs.Files.{Lists, bytes_of};
-ghost use Rattle.av_app_files.specs.Reading.{EndsReading, HostView, IsOutside, KeepsFiles};
+ghost use Rattle.av_app_files.specs.Reading.{EndsReading, HostView, IsOutside, KeepsFiles, Makes};
 
 use av_program::AcceptStop;
 use jv_host::{Host, HostFault};
@@ -45,11 +45,14 @@ pub fn list_names<H: Host>(
     ensures stopped { IfErr result (IsOutside root.now) }
 
     ensures kept { KeepsFiles
-        (record { files = H.files host.old; written = H.written host.old; failed = H.failed host.old; read_faults = H.read_faults host.old; write_faults = H.write_faults host.old })
-        (record { files = H.files host.new; written = H.written host.new; failed = H.failed host.new; read_faults = H.read_faults host.new; write_faults = H.write_faults host.new }) }
+        (record { files = H.files host.old; written = H.written host.old; calls = H.calls host.old; failed = H.failed host.old; read_faults = H.read_faults host.old; write_faults = H.write_faults host.old })
+        (record { files = H.files host.new; written = H.written host.new; calls = H.calls host.new; failed = H.failed host.new; read_faults = H.read_faults host.new; write_faults = H.write_faults host.new }) }
+    ensures makes { Makes (λ call. call ≡ calls.ListRoot root.now most)
+        (record { files = H.files host.old; written = H.written host.old; calls = H.calls host.old; failed = H.failed host.old; read_faults = H.read_faults host.old; write_faults = H.write_faults host.old })
+        (record { files = H.files host.new; written = H.written host.new; calls = H.calls host.new; failed = H.failed host.new; read_faults = H.read_faults host.new; write_faults = H.write_faults host.new }) }
     ensures ends { EndsReading (λ call. call ≡ calls.ListRoot root.now most)
-        (record { files = H.files host.old; written = H.written host.old; failed = H.failed host.old; read_faults = H.read_faults host.old; write_faults = H.write_faults host.old })
-        (record { files = H.files host.new; written = H.written host.new; failed = H.failed host.new; read_faults = H.read_faults host.new; write_faults = H.write_faults host.new }) result }
+        (record { files = H.files host.old; written = H.written host.old; calls = H.calls host.old; failed = H.failed host.old; read_faults = H.read_faults host.old; write_faults = H.write_faults host.old })
+        (record { files = H.files host.new; written = H.written host.new; calls = H.calls host.new; failed = H.failed host.new; read_faults = H.read_faults host.new; write_faults = H.write_faults host.new }) result }
 {
     match host.list(alloc, root, most) {
         Ok(names) => Ok(names),
@@ -75,11 +78,14 @@ pub fn read_bytes<H: Host>(
     ensures stopped { IfErr result (IsOutside name.now) }
 
     ensures kept { KeepsFiles
-        (record { files = H.files host.old; written = H.written host.old; failed = H.failed host.old; read_faults = H.read_faults host.old; write_faults = H.write_faults host.old })
-        (record { files = H.files host.new; written = H.written host.new; failed = H.failed host.new; read_faults = H.read_faults host.new; write_faults = H.write_faults host.new }) }
+        (record { files = H.files host.old; written = H.written host.old; calls = H.calls host.old; failed = H.failed host.old; read_faults = H.read_faults host.old; write_faults = H.write_faults host.old })
+        (record { files = H.files host.new; written = H.written host.new; calls = H.calls host.new; failed = H.failed host.new; read_faults = H.read_faults host.new; write_faults = H.write_faults host.new }) }
+    ensures makes { Makes (λ call. call ≡ calls.ReadFile root.now name.now most)
+        (record { files = H.files host.old; written = H.written host.old; calls = H.calls host.old; failed = H.failed host.old; read_faults = H.read_faults host.old; write_faults = H.write_faults host.old })
+        (record { files = H.files host.new; written = H.written host.new; calls = H.calls host.new; failed = H.failed host.new; read_faults = H.read_faults host.new; write_faults = H.write_faults host.new }) }
     ensures ends { EndsReading (λ call. call ≡ calls.ReadFile root.now name.now most)
-        (record { files = H.files host.old; written = H.written host.old; failed = H.failed host.old; read_faults = H.read_faults host.old; write_faults = H.write_faults host.old })
-        (record { files = H.files host.new; written = H.written host.new; failed = H.failed host.new; read_faults = H.read_faults host.new; write_faults = H.write_faults host.new }) result }
+        (record { files = H.files host.old; written = H.written host.old; calls = H.calls host.old; failed = H.failed host.old; read_faults = H.read_faults host.old; write_faults = H.write_faults host.old })
+        (record { files = H.files host.new; written = H.written host.new; calls = H.calls host.new; failed = H.failed host.new; read_faults = H.read_faults host.new; write_faults = H.write_faults host.new }) result }
 {
     match host.read(alloc, root, name, most) {
         Ok(found) => Ok(found),
