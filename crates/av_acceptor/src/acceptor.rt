@@ -1,9 +1,10 @@
-ghost use Rattle.std.specs.Prelude.{◌≡◌, ◌≤◌, List, ℕ, Option, Some, option_map, IfOk, IfSome};
+ghost use Rattle.std.specs.Prelude.{List, ℕ, Option, option_map, IfOk, IfSome};
 ghost use Rattle.jv_host.specs.declared.host.HostFile.{HostFile};
-ghost use Rattle.jv_host.specs.Counts.{Rises};
 ghost use Rattle.av_program.specs.declared.accept_stop.AcceptStop.{AcceptStop as StopValue};
 ghost use Rattle.av_program.specs.declared.program.Program.{Program as ProgramValue};
-ghost use Rattle.av_acceptor.specs.Accepting.{Tells, Fits, OnReadFault, UnlessTroubled, FailedAt};
+ghost use Rattle.av_program.specs.Answering.{Fits};
+ghost use Rattle.av_program.specs.Reads.{EndsReading, KeepsFiles, Makes};
+ghost use Rattle.av_acceptor.specs.Accepting.{IsNeeded, Tells};
 
 use av_program::{AcceptStop, Program};
 use jv_host::Host;
@@ -49,14 +50,14 @@ pub trait Acceptor {
             → FirstStop told app.now lib.now (option_map (λ name. name.now) main.entry) stop → Fits stop result) }
         ensures accepted { IfOk result (IsAccepted (option_map (λ name. name.now) main.entry)) }
 
-        // A fault is answered only where one was counted, and is that of a call that acceptance needs.
-        ensures fault_counted { OnReadFault result (λ _. Rises (H.read_faults host.old) (H.read_faults host.new)) }
-        ensures failed_now { OnReadFault result (λ name. IfSome (H.failed host.new)
-            (FailedAt (H.files host.old) (λ told. Collects told app.now lib.now) app.now lib.now name)) }
-        ensures faults_kept { UnlessTroubled result (H.read_faults host.new ≡ H.read_faults host.old) }
-        ensures never_falls { H.read_faults host.old ≤ H.read_faults host.new }
-
-        ensures files_kept { H.files host.new ≡ H.files host.old }
-        ensures written_kept { H.written host.new ≡ H.written host.old }
-        ensures write_faults_kept { H.write_faults host.new ≡ H.write_faults host.old };
+        // Nothing is written. The host answers needed calls alone, and a fault is told only where one of them failed.
+        ensures kept { KeepsFiles
+            (record { files = H.files host.old; written = H.written host.old; calls = H.calls host.old; failed = H.failed host.old; read_faults = H.read_faults host.old; write_faults = H.write_faults host.old })
+            (record { files = H.files host.new; written = H.written host.new; calls = H.calls host.new; failed = H.failed host.new; read_faults = H.read_faults host.new; write_faults = H.write_faults host.new }) }
+        ensures makes { Makes (IsNeeded Collects (H.files host.old) app.now lib.now)
+            (record { files = H.files host.old; written = H.written host.old; calls = H.calls host.old; failed = H.failed host.old; read_faults = H.read_faults host.old; write_faults = H.write_faults host.old })
+            (record { files = H.files host.new; written = H.written host.new; calls = H.calls host.new; failed = H.failed host.new; read_faults = H.read_faults host.new; write_faults = H.write_faults host.new }) }
+        ensures ends { EndsReading (IsNeeded Collects (H.files host.old) app.now lib.now)
+            (record { files = H.files host.old; written = H.written host.old; calls = H.calls host.old; failed = H.failed host.old; read_faults = H.read_faults host.old; write_faults = H.write_faults host.old })
+            (record { files = H.files host.new; written = H.written host.new; calls = H.calls host.new; failed = H.failed host.new; read_faults = H.read_faults host.new; write_faults = H.write_faults host.new }) result };
 }

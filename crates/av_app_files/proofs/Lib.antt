@@ -1,2 +1,1 @@
 mod Instances
-mod Making

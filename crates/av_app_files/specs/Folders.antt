@@ -1,25 +1,17 @@
 -- The two folders of a run, and the files of the application in them.
-use Rattle.std.specs.Prelude.{◌≡◌, ◌++◌, ◌||◌, ℕ, Bool, false, List, Some, map, codes, nat_eq, Contains}
-use Rattle.std.specs.List.{ends_with}
+use Rattle.std.specs.Prelude.{◌≡◌, ℕ, false, List, Some, map, Contains}
 use Rattle.std.specs.Ordering.{nat_cmp}
-use Rattle.std.specs.Cmp.Lexicographic.{pointwise, slice_cmp}
+use Rattle.std.specs.Cmp.Lexicographic.{slice_cmp}
 use Rattle.std.specs.List.Sorted.{IsStrictlySortedBy}
 use Rattle.jv_host.specs.declared.host.HostFile.{HostFile}
 use Rattle.jv_host.specs.Files.{bytes_of, class_names}
+pub use Rattle.av_program.specs.Reads.{file_of, is_module_info}
 
 -- what a host tells of its files, and the roots of the application and of the library
 pub record Folders : Type 0 where
   pub files : List HostFile
   pub app : List ℕ
   pub lib : List ℕ
-
--- the file of the class of this name
-abbrev pub file_of : List ℕ → List ℕ
-file_of class = class ++ codes ".class"
-
--- a file that declares a module, in any folder: it is passed over
-abbrev pub is_module_info : List ℕ → Bool
-is_module_info name = pointwise nat_eq name (codes "module-info.class") || ends_with nat_eq name (codes "/module-info.class")
 
 -- a file of the application: its name under the root, and its bytes
 pub record Source : Type 0 where

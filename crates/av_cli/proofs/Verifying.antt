@@ -1,5 +1,5 @@
 -- What an acceptor answers, and what is printed then, make an end of the command.
-use Rattle.std.proofs.Common.{◌≡◌, ℕ, ◌⊎◌, inl, inr, List, Option, Some, None, Result, Ok, Err, refl, sym, ap, subst}
+use Rattle.std.proofs.Common.{◌≡◌, ℕ, ◌⊎◌, inl, inr, List, Option, Some, None, Result, Ok, Err, refl, sym, ap, ◌∙◌, subst}
 use Rattle.std.specs.Prelude.{IfSome}
 use Rattle.jv_host.specs.declared.host.HostFile.{HostFile}
 use Rattle.jv_host.specs.declared.host.HostCall.{HostCall}
@@ -7,9 +7,12 @@ use Rattle.jv_host.specs.Counts.{Rises}
 use Rattle.av_program.specs.declared.accept_stop.AcceptStop.{AcceptStop}
 use Rattle.av_program.specs.declared.accept_stop.AcceptStop.TheVariants as stop
 use Rattle.av_program.specs.declared.program.Program.{Program}
-use Rattle.av_acceptor.specs.Accepting.{Tells, Fits, OnReadFault, UnlessTroubled, FailedAt}
+use Rattle.av_program.specs.Answering.{Fits}
+use Rattle.av_program.specs.Reads.{EndsReading, FailedAt, HostView, Makes}
+use Rattle.av_acceptor.specs.Accepting.{IsNeeded, Tells}
 use Rattle.av_outcome.specs.declared.outcome.Outcome.{Outcome}
 use Rattle.av_outcome.specs.declared.outcome.Outcome.TheVariants.{Done, Refused, Usage, ReadFault, WriteFault, Limit, Memory}
+use Rattle.av_outcome.specs.Handing.{SinkState}
 use Rattle.av_outcome.specs.Outcomes.{outcome_of_stop}
 use Rattle.av_cli.specs.Outside.{Outside, NothingPrinted}
 use Rattle.av_cli.specs.Verifying.{Prints, IsVerified, IsDue, Settles, VerifyEnds}
@@ -18,14 +21,32 @@ use Rattle.av_cli.specs.Verifying.{Prints, IsVerified, IsDue, Settles, VerifyEnd
 at_told : (files : Option (List HostFile)) (told : List HostFile) (P : List HostFile → Type 0) → files ≡ Some told → IfSome files P → P told
 at_told files told P e h = subst (λ (f : Option (List HostFile)). IfSome f P) e h
 
--- a call that failed is needed for these folders, by their names in other words
-pub failed_for : (result : Result Program AcceptStop) (failed : Option (Option HostCall)) (files : Option (List HostFile))
-    (collects : List HostFile → List ℕ → List ℕ → List ℕ → Type 0) (a b c d : List ℕ) → a ≡ b → c ≡ d
-    → OnReadFault result (λ name. IfSome failed (FailedAt files (λ told. collects told a c) a c name))
-    → OnReadFault result (λ name. IfSome failed (FailedAt files (λ told. collects told b d) b d name))
-failed_for result failed files collects a b c d p q h =
-    subst (λ (x : List ℕ). OnReadFault result (λ name. IfSome failed (FailedAt files (λ told. collects told b x) b x name))) q
-    (subst (λ (x : List ℕ). OnReadFault result (λ name. IfSome failed (FailedAt files (λ told. collects told x c) x c name))) p h)
+-- the calls that are needed for two folders, whose names are these
+same_needed : (collects : List HostFile → List ℕ → List ℕ → List ℕ → Type 0) (files : Option (List HostFile)) (a b c d : List ℕ) → a ≡ b → c ≡ d
+    → IsNeeded collects files a c ≡ IsNeeded collects files b d
+same_needed collects files a b c d p q = ap (λ (x : List ℕ). IsNeeded collects files x c) p ∙ ap (λ (x : List ℕ). IsNeeded collects files b x) q
+
+pub makes_for : (collects : List HostFile → List ℕ → List ℕ → List ℕ → Type 0) (files : Option (List HostFile)) (before after : HostView)
+    (a b c d : List ℕ) → a ≡ b → c ≡ d → Makes (IsNeeded collects files a c) before after → Makes (IsNeeded collects files b d) before after
+makes_for collects files before after a b c d p q h =
+    subst (λ (May : HostCall → Type 0). Makes May before after) (same_needed collects files a b c d p q) h
+
+pub ends_for : (result : Result Program AcceptStop) (collects : List HostFile → List ℕ → List ℕ → List ℕ → Type 0) (files : Option (List HostFile))
+    (before after : HostView) (a b c d : List ℕ) → a ≡ b → c ≡ d
+    → EndsReading (IsNeeded collects files a c) before after result → EndsReading (IsNeeded collects files b d) before after result
+ends_for result collects files before after a b c d p q h =
+    subst (λ (May : HostCall → Type 0). EndsReading May before after result) (same_needed collects files a b c d p q) h
+
+-- what a command sees of a host and of its output
+pub outside_of : HostView → HostView → SinkState → SinkState → Outside
+outside_of before after printed_before printed_after = record {
+  files = before.files;
+  reads_before = before.read_faults;
+  reads_after = after.read_faults;
+  failed = after.failed;
+  out_before = printed_before;
+  out_after = printed_after;
+}
 
 module _ (first_stop : List HostFile → List ℕ → List ℕ → Option (List ℕ) → AcceptStop → Type 0)
     (program_of : List HostFile → List ℕ → List ℕ → Option (List ℕ) → Program → Type 0)
@@ -56,29 +77,31 @@ module _ (first_stop : List HostFile → List ℕ → List ℕ → Option (List 
   settles_limit quantity number told first only Memory is = absurd is
 
   -- an application that isn't accepted
-  pub stopped : (s : AcceptStop)
-      → IfSome o.files (λ told. Tells (program_of told app lib None) (first_stop told app lib None) (Err s))
-      → IfSome o.files (λ told. (t : AcceptStop) → first_stop told app lib None t → Fits t (Err s))
-      → OnReadFault (Err s) (λ _. Rises o.reads_before o.reads_after)
-      → OnReadFault (Err s) (λ name. IfSome o.failed (FailedAt o.files (λ told. collects told app lib) app lib name))
-      → UnlessTroubled (Err s) (o.reads_after ≡ o.reads_before) → NothingPrinted o
-      → VerifyEnds first_stop program_of collects is_accepted app lib o (outcome_of_stop s)
-  stopped (stop.Refused refusal) tells exact counted failed kept silent = record {
+  refused_ends : (refusal : _) → IfSome o.files (λ told. first_stop told app lib None (stop.Refused refusal))
+      → IfSome o.files (λ told. (t : AcceptStop) → first_stop told app lib None t → t ≡ stop.Refused refusal)
+      → o.reads_after ≡ o.reads_before → NothingPrinted o → VerifyEnds first_stop program_of collects is_accepted app lib o (Refused refusal)
+  refused_ends refusal tells exact kept silent = record {
     concludes = (tells, kept, silent);
     exact = λ told e calm due is. settles_refused refusal told (at_told o.files told _ e tells) (at_told o.files told _ e exact) due is;
   }
-  stopped (stop.Limit quantity number) tells exact counted failed kept silent = record {
+
+  limit_ends : (quantity : _) (number : ℕ) → IfSome o.files (λ told. first_stop told app lib None (stop.Limit quantity number))
+      → IfSome o.files (λ told. (t : AcceptStop) → first_stop told app lib None t → Fits t (Err (stop.Limit quantity number)))
+      → o.reads_after ≡ o.reads_before → NothingPrinted o → VerifyEnds first_stop program_of collects is_accepted app lib o (Limit quantity number)
+  limit_ends quantity number tells exact kept silent = record {
     concludes = (tells, kept, silent);
     exact = λ told e calm due is. settles_limit quantity number told (at_told o.files told _ e tells) (at_told o.files told _ e exact) due is;
   }
-  stopped (stop.ReadFault name) tells exact counted failed kept silent = record {
+
+  fault_ends : (name : List ℕ) → Rises o.reads_before o.reads_after → IfSome o.failed (FailedAt (IsNeeded collects o.files app lib) name)
+      → NothingPrinted o → VerifyEnds first_stop program_of collects is_accepted app lib o (ReadFault name)
+  fault_ends name counted failed silent = record {
     concludes = (counted, failed, silent);
     exact = λ told e calm due is. absurd (calm counted);
   }
-  stopped stop.Memory tells exact counted failed kept silent = record {
-    concludes = inl silent;
-    exact = λ told e calm due is. inr (inl refl);
-  }
+
+  memory_ends : NothingPrinted o → VerifyEnds first_stop program_of collects is_accepted app lib o Memory
+  memory_ends silent = record { concludes = inl silent; exact = λ told e calm due is. inr (inl refl) }
 
   -- nothing stops an application that is accepted
   settles_done : (told : List HostFile) → ((s : AcceptStop) → first_stop told app lib None s → ⊥)
@@ -123,3 +146,21 @@ module _ (first_stop : List HostFile → List ℕ → List ℕ → Option (List 
     printed Usage p = absurd p
     printed (ReadFault name) p = absurd p
     printed (Limit quantity number) p = absurd p
+
+-- an application that isn't accepted, by what the host tells of itself before and after
+pub stopped : (first_stop : List HostFile → List ℕ → List ℕ → Option (List ℕ) → AcceptStop → Type 0)
+    (program_of : List HostFile → List ℕ → List ℕ → Option (List ℕ) → Program → Type 0)
+    (collects : List HostFile → List ℕ → List ℕ → List ℕ → Type 0) (is_accepted : Option (List ℕ) → Program → Type 0)
+    (app lib : List ℕ) (before after : HostView) (printed : SinkState) (s : AcceptStop)
+    → IfSome before.files (λ told. Tells (program_of told app lib None) (first_stop told app lib None) (Err s))
+    → IfSome before.files (λ told. (t : AcceptStop) → first_stop told app lib None t → Fits t (Err s))
+    → EndsReading {T = Program} (IsNeeded collects before.files app lib) before after (Err s)
+    → VerifyEnds first_stop program_of collects is_accepted app lib (outside_of before after printed printed) (outcome_of_stop s)
+stopped fs po co ia app lib before after printed (stop.Refused refusal) tells exact ends =
+    refused_ends fs po co ia app lib (outside_of before after printed printed) refusal tells exact ends.read_faults refl
+stopped fs po co ia app lib before after printed (stop.Limit quantity number) tells exact ends =
+    limit_ends fs po co ia app lib (outside_of before after printed printed) quantity number tells exact ends.read_faults refl
+stopped fs po co ia app lib before after printed (stop.ReadFault name) tells exact ends =
+    fault_ends fs po co ia app lib (outside_of before after printed printed) name ends.counted ends.told refl
+stopped fs po co ia app lib before after printed stop.Memory tells exact ends =
+    memory_ends fs po co ia app lib (outside_of before after printed printed) refl

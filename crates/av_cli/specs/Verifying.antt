@@ -7,7 +7,8 @@ use Rattle.jv_host.specs.Counts.{Rises}
 use Rattle.av_program.specs.declared.accept_stop.AcceptStop.{AcceptStop}
 use Rattle.av_program.specs.declared.accept_stop.AcceptStop.TheVariants as stop
 use Rattle.av_program.specs.declared.program.Program.{Program}
-use Rattle.av_acceptor.specs.Accepting.{FailedAt}
+use Rattle.av_program.specs.Reads.{FailedAt}
+use Rattle.av_acceptor.specs.Accepting.{IsNeeded}
 use Rattle.av_verified.specs.Lines.{AreVerifiedLines}
 use Rattle.av_outcome.specs.declared.outcome.Outcome.{Outcome}
 use Rattle.av_outcome.specs.declared.outcome.Outcome.TheVariants.{Done, Refused, Usage, ReadFault, WriteFault, Limit, Memory}
@@ -94,6 +95,6 @@ pub record VerifyEnds (first_stop : List HostFile → List ℕ → List ℕ → 
     (app lib : List ℕ) (o : Outside) (outcome : Outcome) : Type 0 where
   pub concludes : Concludes (λ told. first_stop told app lib None)
       (IsVerified (λ told. program_of told app lib None) (is_accepted None) o.files)
-      (FailedAt o.files (λ told. collects told app lib) app lib) o outcome
+      (FailedAt (IsNeeded collects o.files app lib)) o outcome
   pub exact : (told : List HostFile) → o.files ≡ Some told → ¬ Rises o.reads_before o.reads_after → (due : Outcome)
       → IsDue (first_stop told app lib None) o due → Settles due outcome

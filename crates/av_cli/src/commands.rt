@@ -1,6 +1,8 @@
 ghost use Rattle.std.specs.Prelude.{◌≡◌, ◌⊎◌, List, ℕ, map, option_map};
 ghost use Rattle.jv_host.specs.Counts.{one_more};
-ghost use Rattle.av_words.specs.Requests.{AskCalls, AskNothing};
+ghost use Rattle.av_words.specs.Requests.{AskCalls, AskNothing, AskVerify};
+ghost use Rattle.av_program.specs.Reads.{Makes};
+ghost use Rattle.av_acceptor.specs.Accepting.{IsNeeded};
 ghost use Rattle.av_cli.specs.Calls.Ending.{CallsOnlyRead};
 ghost use Rattle.av_cli.specs.Commands.{Runs};
 ghost use Rattle.av_cli.specs.Verifying.{VerifyEnds};
@@ -51,6 +53,10 @@ pub fn run_with<H: Host, O: Sink, E: Sink, A: Acceptor>(
         → (H.asked host.new ≡ H.asked host.old) ⊎ (H.asked host.new ≡ option_map one_more (H.asked host.old)) }
     ensures only_read { (root name : List ℕ) → AskCalls (map (λ w. w.now) words.now) root name
         → CallsOnlyRead (map (λ w. w.now) words.now) (H.calls host.old) (H.calls host.new) }
+    // For `verify` the host answers needed calls alone.
+    ensures only_needed { (app lib : List ℕ) → AskVerify (map (λ w. w.now) words.now) app lib → Makes (IsNeeded A.Collects (H.files host.old) app lib)
+        (record { files = H.files host.old; written = H.written host.old; calls = H.calls host.old; failed = H.failed host.old; read_faults = H.read_faults host.old; write_faults = H.write_faults host.old })
+        (record { files = H.files host.new; written = H.written host.new; calls = H.calls host.new; failed = H.failed host.new; read_faults = H.read_faults host.new; write_faults = H.write_faults host.new }) }
     ensures files_kept { H.files host.new ≡ H.files host.old }
     ensures written_kept { H.written host.new ≡ H.written host.old }
     ensures write_faults_kept { H.write_faults host.new ≡ H.write_faults host.old }

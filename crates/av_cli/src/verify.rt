@@ -1,7 +1,8 @@
-ghost use Rattle.std.specs.Prelude.{◌≡◌, ◌≤◌, IfOk, IfSome};
-ghost use Rattle.jv_host.specs.Counts.{Rises};
+ghost use Rattle.std.specs.Prelude.{◌≡◌, IfOk, IfSome};
 ghost use Rattle.av_program.specs.declared.accept_stop.AcceptStop.{AcceptStop as StopValue};
-ghost use Rattle.av_acceptor.specs.Accepting.{Tells, Fits, OnReadFault, UnlessTroubled, FailedAt};
+ghost use Rattle.av_program.specs.Answering.{Fits};
+ghost use Rattle.av_program.specs.Reads.{EndsReading, KeepsFiles, Makes};
+ghost use Rattle.av_acceptor.specs.Accepting.{IsNeeded, Tells};
 ghost use Rattle.av_cli.specs.Verifying.{Prints, VerifyEnds};
 
 use av_acceptor::Acceptor;
@@ -25,14 +26,15 @@ fn accept_folders<A: Acceptor, H: Host>(
     ensures exact { IfSome (H.files host.old) (λ told. (stop : StopValue) → A.FirstStop told app.now lib.now None stop → Fits stop result) }
     ensures accepted { IfOk result (A.IsAccepted None) }
 
-    ensures fault_counted { OnReadFault result (λ _. Rises (H.read_faults host.old) (H.read_faults host.new)) }
-    ensures failed_now { OnReadFault result (λ name. IfSome (H.failed host.new)
-        (FailedAt (H.files host.old) (λ told. A.Collects told app.now lib.now) app.now lib.now name)) }
-    ensures faults_kept { UnlessTroubled result (H.read_faults host.new ≡ H.read_faults host.old) }
-
-    ensures files_kept { H.files host.new ≡ H.files host.old }
-    ensures written_kept { H.written host.new ≡ H.written host.old }
-    ensures write_faults_kept { H.write_faults host.new ≡ H.write_faults host.old }
+    ensures kept { KeepsFiles
+        (record { files = H.files host.old; written = H.written host.old; calls = H.calls host.old; failed = H.failed host.old; read_faults = H.read_faults host.old; write_faults = H.write_faults host.old })
+        (record { files = H.files host.new; written = H.written host.new; calls = H.calls host.new; failed = H.failed host.new; read_faults = H.read_faults host.new; write_faults = H.write_faults host.new }) }
+    ensures makes { Makes (IsNeeded A.Collects (H.files host.old) app.now lib.now)
+        (record { files = H.files host.old; written = H.written host.old; calls = H.calls host.old; failed = H.failed host.old; read_faults = H.read_faults host.old; write_faults = H.write_faults host.old })
+        (record { files = H.files host.new; written = H.written host.new; calls = H.calls host.new; failed = H.failed host.new; read_faults = H.read_faults host.new; write_faults = H.write_faults host.new }) }
+    ensures ends { EndsReading (IsNeeded A.Collects (H.files host.old) app.now lib.now)
+        (record { files = H.files host.old; written = H.written host.old; calls = H.calls host.old; failed = H.failed host.old; read_faults = H.read_faults host.old; write_faults = H.write_faults host.old })
+        (record { files = H.files host.new; written = H.written host.new; calls = H.calls host.new; failed = H.failed host.new; read_faults = H.read_faults host.new; write_faults = H.write_faults host.new }) result }
 {
     let app = Name::from_slice(alloc, app)?;
     let lib = Name::from_slice(alloc, lib)?;
@@ -76,9 +78,12 @@ pub fn verify<A: Acceptor, H: Host, O: Sink>(
     }) result }
     ensures no_blanks { O.blanks out.new ≡ O.blanks out.old }
 
-    ensures files_kept { H.files host.new ≡ H.files host.old }
-    ensures written_kept { H.written host.new ≡ H.written host.old }
-    ensures write_faults_kept { H.write_faults host.new ≡ H.write_faults host.old }
+    ensures kept { KeepsFiles
+        (record { files = H.files host.old; written = H.written host.old; calls = H.calls host.old; failed = H.failed host.old; read_faults = H.read_faults host.old; write_faults = H.write_faults host.old })
+        (record { files = H.files host.new; written = H.written host.new; calls = H.calls host.new; failed = H.failed host.new; read_faults = H.read_faults host.new; write_faults = H.write_faults host.new }) }
+    ensures makes { Makes (IsNeeded A.Collects (H.files host.old) app.now lib.now)
+        (record { files = H.files host.old; written = H.written host.old; calls = H.calls host.old; failed = H.failed host.old; read_faults = H.read_faults host.old; write_faults = H.write_faults host.old })
+        (record { files = H.files host.new; written = H.written host.new; calls = H.calls host.new; failed = H.failed host.new; read_faults = H.read_faults host.new; write_faults = H.write_faults host.new }) }
 {
     let program = match accept_folders(alloc, acceptor, app, lib, host) {
         Ok(program) => program,

@@ -1,5 +1,4 @@
-use Rattle.std.proofs.Common.{◌≡◌}
-use Rattle.av_app_files.proofs.Making.{makes_answered}
+use Rattle.av_program.proofs.Making.{makes_answered}
 use Rattle.av_app_files.proofs.reading.list_names.Goals as goal
 
 -- the call that was made is the one that may be

@@ -1,6 +1,7 @@
 use Rattle.std.proofs.Common.{List, ℕ, refl, ap, ◌∙◌}
 use Rattle.av_outcome.specs.declared.outcome.Outcome.TheVariants.{Memory, Usage}
 use Rattle.av_outcome.proofs.Sinks.{says, Handed-is}
+use Rattle.av_program.proofs.Making.{makes_none}
 use Rattle.av_cli.specs.Calls.Answers.{error_line}
 use Rattle.av_cli.specs.Commands.{outcome_of, misused, called, verified, starved}
 use Rattle.av_cli.proofs.CallsExactness.{exact_request}
@@ -48,3 +49,9 @@ returns-in-Ok-Some-Verify-clause-ends g c = record {
       (rw (c.as_bytes-in-Ok-Some-Verify.ensures.value, c.as_bytes-in-Ok-Some-Verify-2.ensures.value) at c.verify-outcome.ensures.ends);
   said = c.finish-in-Ok-Some-Verify.ensures.said;
 }
+
+pub returns-in-Err-clause-only_needed : goal.returns-in-Err-clause-only_needed
+returns-in-Err-clause-only_needed g c = λ app lib asks. makes_none _ _ _ refl
+
+pub returns-in-Ok-None-clause-only_needed : goal.returns-in-Ok-None-clause-only_needed
+returns-in-Ok-None-clause-only_needed g c = λ app lib asks. makes_none _ _ _ refl

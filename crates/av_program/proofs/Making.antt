@@ -4,7 +4,7 @@ use Rattle.jv_host.specs.declared.host.HostCall.{HostCall}
 use Rattle.jv_host.specs.declared.host.HostFault.{HostFault}
 use Rattle.jv_host.specs.declared.host.HostFault.TheVariants.{Failed, Memory}
 use Rattle.jv_host.specs.HostAnswer.{calls_after}
-use Rattle.av_app_files.specs.Reading.{HostView, Makes}
+use Rattle.av_program.specs.Reads.{HostView, Makes}
 
 -- no call adds nothing
 none_added : (calls : Option (List HostCall)) → calls ≡ option_map (λ earlier. earlier ++ []) calls
