@@ -1,17 +1,13 @@
 -- Elements of lists by their places.
 use Rattle.std.proofs.Common.{◌≡◌, ℕ, zero, suc, ◌+◌, ◌⊎◌, inl, inr, List, [], ◌∷◌, ◌++◌, Some, Contains, slice_get, refl, sym, ap, ◌∙◌, subst, ⊎_elim, arith}
-use Rattle.std.specs.List.{AllByRecursion, AllZip}
+use Rattle.std.specs.List.{AllZip}
 use Rattle.std.proofs.lemmas.Option.{slice_get-get_or}
 use Rattle.jv_resolve.proofs.PlacesLemmas.{among_from_get}
 use Rattle.av_collected.specs.Answers.{Picks}
-use Rattle.av_collected.proofs.Lists.{in_head, in_tail, of_cons, in_none}
+use Rattle.av_collected.proofs.Lists.{in_head, in_tail, of_cons}
 
 pub at_place : {X : Type 0} (xs : List X) (x : X) (p : Contains xs x) → slice_get xs p.0 ≡ Some x
 at_place {X} xs x p = slice_get-get_or xs p.0 x p.1 ∙ ap (λ (y : X). Some y) p.2
-
-pub among_all : {X : Type 0} (P : X → Type 0) (xs : List X) (x : X) → AllByRecursion P xs → Contains xs x → P x
-among_all P [] x all h = absurd (in_none x h)
-among_all {X} P (y ∷ xs) x all h = ⊎_elim (λ same. subst P same all.0) (λ later. among_all P xs x all.1 later) (of_cons y xs x h)
 
 -- ---- one list behind the other
 

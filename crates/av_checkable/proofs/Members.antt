@@ -1,7 +1,6 @@
 -- Methods of class files: which have code, and that no two of one class have one name and descriptor.
-use Rattle.std.proofs.Common.{◌≡◌, ◌||◌, ℕ, ◌+◌, ◌<◌, Bool, true, false, cond, if◌then◌else◌, IsTrue, List, [], ◌∷◌, Option, Some, None, Contains, count_by, slice_get, refl, sym, ap, ◌∙◌, subst, arith, eqb-true, eq-eqb}
+use Rattle.std.proofs.Common.{◌≡◌, ◌||◌, ℕ, ◌<◌, Bool, true, false, if◌then◌else◌, IsTrue, List, Some, None, Contains, count_by, slice_get, refl, sym, ap, ◌∙◌, subst, arith, eqb-true, eq-eqb}
 use Rattle.std.specs.Prelude.{bit_and}
-use Rattle.std.proofs.lemmas.List.Sums.{sum_by-cons}
 use Rattle.std.proofs.lemmas.Bool.{false≢true}
 use Rattle.jv_types.specs.declared.desc.MethodDesc.{MethodDesc}
 use Rattle.jv_types.specs.declared.shapes.MethodShape.{MethodShape}
@@ -9,49 +8,19 @@ use Rattle.jv_types.specs.declared.shapes.Shape.{Shape}
 use Rattle.jv_desc.specs.Texts.{IsMethodText}
 use Rattle.jv_pool.specs.declared.item.PoolItem.{PoolItem}
 use Rattle.jv_pool.specs.Lookups.{text_at}
-use Rattle.jv_attr.specs.declared.attr.Attr.{Attr}
-use Rattle.jv_attr.specs.declared.attr.AttrBody.{AttrBody}
-use Rattle.jv_attr.specs.declared.attr.AttrBody.TheVariants.{Code, Maps, Raw}
 use Rattle.jv_attr.specs.declared.attr.CodeAttr.{CodeAttr}
 use Rattle.jv_class.specs.declared.class_file.ClassFile.{ClassFile}
 use Rattle.jv_class.specs.declared.class_file.Member.{Member}
-use Rattle.jv_class.specs.ClassTexts.{IsMethodMember, has_code, is_abstract, is_code_body, is_native}
-use Rattle.jv_class.specs.MethodCodes.{code_in, code_or}
+use Rattle.jv_class.specs.ClassTexts.{has_code, is_abstract, is_native}
+use Rattle.jv_class.specs.MethodCodes.{code_in}
 use Rattle.jv_class.specs.Shapes.{IsMethodShape}
 use Rattle.jv_resolve.specs.Members.{IsAbstract}
 use Rattle.av_stops.specs.LibraryFolders.{IsStated}
 use Rattle.av_stops.specs.Programs.{IsOfFile}
-use Rattle.av_checkable.proofs.Lists.{among_all, zip_right}
+use Rattle.av_one_application.proofs.MethodCodes.{counted, is_member, none_counted}
+use Rattle.av_checkable.proofs.Lists.{zip_right}
 
 -- ---- codes
-
-one_more : (body : AttrBody CodeAttr) (later : Option CodeAttr) (code : CodeAttr) (more : ℕ) → code_or body later ≡ Some code → (later ≡ Some code → 0 < more)
-    → 0 < cond (is_code_body body) 1 0 + more
-one_more (Code made) later code more e onward = omega arith
-one_more (Maps frames) later code more e onward = let l = onward e in omega (arith, l)
-one_more (Raw bytes) later code more e onward = let l = onward e in omega (arith, l)
-
-counted : (attrs : List (Attr CodeAttr)) (code : CodeAttr) → code_in attrs ≡ Some code → 0 < count_by has_code attrs
-counted [] code e = absurd cc
-counted (a ∷ attrs) code e =
-    let l = one_more a.body (code_in attrs) code (count_by has_code attrs) e (λ later. counted attrs code later) in
-    let sum = sum_by-cons (λ (x : Attr CodeAttr). cond (has_code x) 1 0) a attrs in
-    omega (arith, l, sum)
-
-none_more : (body : AttrBody CodeAttr) (later : Option CodeAttr) (more : ℕ) → code_or body later ≡ None → (later ≡ None → more ≡ 0) → cond (is_code_body body) 1 0 + more ≡ 0
-none_more (Code made) later more e onward = absurd cc
-none_more (Maps frames) later more e onward = let l = onward e in omega (arith, l)
-none_more (Raw bytes) later more e onward = let l = onward e in omega (arith, l)
-
-none_counted : (attrs : List (Attr CodeAttr)) → code_in attrs ≡ None → count_by has_code attrs ≡ 0
-none_counted [] e = refl
-none_counted (a ∷ attrs) e =
-    let l = none_more a.body (code_in attrs) (count_by has_code attrs) e (λ later. none_counted attrs later) in
-    let sum = sum_by-cons (λ (x : Attr CodeAttr). cond (has_code x) 1 0) a attrs in
-    omega (arith, l, sum)
-
-is_member : (class : ClassFile) (member : Member) → IsOfFile class → Contains class.methods member → IsMethodMember class.pool member
-is_member class member file here = among_all (IsMethodMember class.pool) class.methods member file.1.is_class.rules.methods here
 
 abstract_flag : (items : List PoolItem) (member : Member) (x : MethodShape) → IsMethodShape items member x → IsAbstract x.flags → is_abstract member ≡ true
 abstract_flag items member x shape flag =

@@ -13,7 +13,8 @@ use Rattle.av_app_files.specs.Folders.{Folders}
 use Rattle.av_stops.specs.Applications.{IsApplication, IsGivenBy}
 use Rattle.av_one_application.specs.Same.{IsSameApplication}
 use Rattle.av_one_application.proofs.Loading.{OneText, one_files}
-use Rattle.av_one_application.proofs.Orders.{in_head, in_tail, of_cons, in_none, same_sorted}
+use Rattle.av_collected.proofs.Lists.{in_head, in_none, in_tail, of_cons}
+use Rattle.av_one_application.proofs.Orders.{same_sorted}
 
 -- the law that a class has one shape
 abbrev pub OneShape : Type 0

@@ -5,3 +5,4 @@ mod Giving
 mod Reading
 mod Collecting
 pub mod Answering
+pub mod MethodCodes

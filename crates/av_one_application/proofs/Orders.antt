@@ -1,5 +1,5 @@
 -- Lists that rise by an order: two with the same elements are the same.
-use Rattle.std.proofs.Common.{◌≡◌, zero, suc, ◌⊎◌, inl, inr, List, [], ◌∷◌, Contains, map, refl, sym, ap, ◌∙◌, subst, ⊎_elim, arith}
+use Rattle.std.proofs.Common.{◌≡◌, List, [], ◌∷◌, Contains, map, refl, sym, ap, ◌∙◌, subst, ⊎_elim}
 use Rattle.std.specs.List.{AllByRecursion, AllZip}
 use Rattle.std.specs.Cmp.{IsTotalOrder}
 use Rattle.std.specs.Ordering.{ordering_reverse}
@@ -7,19 +7,7 @@ use Rattle.std.specs.declared.cmp.Ordering.{Ordering}
 use Rattle.std.specs.declared.cmp.Ordering.TheVariants.{Less, Equal, Greater}
 use Rattle.std.specs.List.Sorted.{IsStrictlySortedBy}
 use Rattle.std.proofs.lemmas.Map.Keys.{sorted_head, sorted_tail}
-
-pub in_head : {X : Type 0} (x : X) (xs : List X) → Contains (x ∷ xs) x
-in_head x xs = (0, omega arith, refl)
-
-pub in_tail : {X : Type 0} (x : X) (xs : List X) (y : X) → Contains xs y → Contains (x ∷ xs) y
-in_tail x xs y h = (suc h.0, omega (arith, h.1), h.2)
-
-pub of_cons : {X : Type 0} (x : X) (xs : List X) (y : X) → Contains (x ∷ xs) y → (x ≡ y) ⊎ Contains xs y
-of_cons x xs y (zero, below, is) = inl is
-of_cons x xs y (suc k, below, is) = inr (k, omega (arith, below), is)
-
-pub in_none : {X : Type 0} (y : X) → Contains [] y → ⊥
-in_none y h = absurd (omega (arith, h.1))
+use Rattle.av_collected.proofs.Lists.{in_head, in_none, in_tail, of_cons}
 
 -- each element comes before those behind it
 abbrev pub Rises : {X : Type 0} → (X → X → Type 0) → List X → Type 0

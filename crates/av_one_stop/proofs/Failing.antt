@@ -1,7 +1,5 @@
 -- A method of a class file fails one rule at one offset, or none.
-use Rattle.std.proofs.Common.{inl, inr, ◌≡◌, ◌||◌, ℕ, ◌+◌, ◌<◌, Bool, true, false, cond, if◌then◌else◌, IsTrue, List, [], ◌∷◌, Option, Some, None, Contains, count_by, sym, ◌∙◌, subst, arith}
-use Rattle.std.specs.List.{AllByRecursion}
-use Rattle.std.proofs.lemmas.List.Sums.{sum_by-cons}
+use Rattle.std.proofs.Common.{◌≡◌, ◌||◌, ℕ, ◌<◌, Bool, true, false, if◌then◌else◌, IsTrue, List, Some, None, Contains, count_by, sym, ◌∙◌, subst, arith}
 use Rattle.std.proofs.lemmas.Bool.{false≢true}
 use Rattle.std.proofs.lemmas.Option.{same_Some}
 use Rattle.jv_types.specs.declared.body.Body.{Body}
@@ -11,21 +9,18 @@ use Rattle.jv_types.specs.declared.raw_handler.RawHandler.{RawHandler}
 use Rattle.jv_types.specs.declared.rule.Rule.{Rule}
 use Rattle.jv_types.specs.declared.shapes.Shape.{Shape}
 use Rattle.jv_pool.specs.declared.item.PoolItem.{PoolItem}
-use Rattle.jv_attr.specs.declared.attr.Attr.{Attr}
-use Rattle.jv_attr.specs.declared.attr.AttrBody.{AttrBody}
-use Rattle.jv_attr.specs.declared.attr.AttrBody.TheVariants.{Code, Maps, Raw}
 use Rattle.jv_attr.specs.declared.attr.CodeAttr.{CodeAttr}
 use Rattle.jv_class.specs.declared.class_file.ClassFile.{ClassFile}
 use Rattle.jv_class.specs.declared.class_file.Member.{Member}
-use Rattle.jv_class.specs.ClassTexts.{AreDistinct, IsMethodMember, has_code, is_abstract, is_code_body, is_native}
-use Rattle.jv_class.specs.MethodCodes.{code_in, code_or}
+use Rattle.jv_class.specs.ClassTexts.{AreDistinct, has_code, is_abstract, is_native}
+use Rattle.jv_class.specs.MethodCodes.{code_in}
 use Rattle.jv_insn.specs.Decoding.{Decodes, FailsAt, IsLeastFailure}
 use Rattle.jv_verify.specs.Verified.{IsUnverified, IsVerified}
 use Rattle.av_stops.specs.Bodies.{HasDecoded}
 use Rattle.av_stops.specs.MethodRules.{FailsMethod, by_native, by_form, by_insn, by_types, IsAccepted, KeepsIn, PassesMethod, without_code, with_frames}
 use Rattle.av_stops.specs.Programs.{IsOfFile}
 use Rattle.av_insn_rules.specs.InsnRules.{FailsFirst, FailsNowhere, insn_rules}
-use Rattle.av_one_application.proofs.Orders.{of_cons, in_none}
+use Rattle.av_one_application.proofs.MethodCodes.{counted, is_member}
 use Rattle.av_one_stop.proofs.Instructions.{one_fails, not_nowhere}
 
 -- the laws on codes and on the verifier
@@ -43,36 +38,13 @@ pub record Laws : Type 0 where
 
 -- ---- a native method has no code
 
-among_all : {X : Type 0} (P : X → Type 0) (xs : List X) (x : X) → AllByRecursion P xs → Contains xs x → P x
-among_all P [] x all h = absurd (in_none x h)
-among_all {X} P (y ∷ xs) x all h = elim (of_cons y xs x h) [
-  | inl same ↦ subst P same all.0
-  | inr later ↦ among_all P xs x all.1 later
-]
-
-one_more : (body : AttrBody CodeAttr) (later : Option CodeAttr) (code : CodeAttr) (more : ℕ) → code_or body later ≡ Some code → (later ≡ Some code → 0 < more)
-    → 0 < cond (is_code_body body) 1 0 + more
-one_more (Code made) later code more e onward = omega arith
-one_more (Maps frames) later code more e onward = let l = onward e in omega (arith, l)
-one_more (Raw bytes) later code more e onward = let l = onward e in omega (arith, l)
-
-counted : (attrs : List (Attr CodeAttr)) (code : CodeAttr) → code_in attrs ≡ Some code → 0 < count_by has_code attrs
-counted [] code e = absurd cc
-counted (a ∷ attrs) code e =
-    let l = one_more a.body (code_in attrs) code (count_by has_code attrs) e (λ later. counted attrs code later) in
-    let sum = sum_by-cons (λ (x : Attr CodeAttr). cond (has_code x) 1 0) a attrs in
-    omega (arith, l, sum)
-
-is_member : (class : ClassFile) (member : Member) → IsOfFile class → Contains class.methods member → IsMethodMember class.pool member
-is_member class member file here = among_all (IsMethodMember class.pool) class.methods member file.1.is_class.rules.methods here
-
-none_counted : (native abstract : Bool) (count : ℕ) → IsTrue native → count ≡ (if native || abstract then 0 else 1) → 0 < count → ⊥
-none_counted true abstract count is e some = absurd (omega (arith, e, some))
-none_counted false abstract count is e some = false≢true is
+never_counted : (native abstract : Bool) (count : ℕ) → IsTrue native → count ≡ (if native || abstract then 0 else 1) → 0 < count → ⊥
+never_counted true abstract count is e some = absurd (omega (arith, e, some))
+never_counted false abstract count is e some = false≢true is
 
 native_codeless : (class : ClassFile) (member : Member) (code : CodeAttr) → IsOfFile class → Contains class.methods member → IsTrue (is_native member) → code_in member.attrs ≡ Some code → ⊥
 native_codeless class member code file here native has =
-    none_counted (is_native member) (is_abstract member) (count_by has_code member.attrs) native (is_member class member file here).code (counted member.attrs code has)
+    never_counted (is_native member) (is_abstract member) (count_by has_code member.attrs) native (is_member class member file here).code (counted member.attrs code has)
 
 distinct : (class : ClassFile) → IsOfFile class → AreDistinct class.pool class.methods
 distinct class file = file.1.is_class.rules.distinct_methods

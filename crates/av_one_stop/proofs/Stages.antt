@@ -25,7 +25,7 @@ use Rattle.av_stops.specs.Mains.{HasNoMain, IsStartOf}
 use Rattle.av_stops.specs.MethodRules.{AreAccepted, StopsAtMethod}
 use Rattle.av_stops.specs.Programs.{IsOfFile}
 use Rattle.av_one_application.specs.Same.{IsSameApplication, IsSameLibrary}
-use Rattle.av_one_application.proofs.Orders.{of_cons, in_none}
+use Rattle.av_collected.proofs.Lists.{in_none, of_cons}
 use Rattle.av_one_stop.proofs.Ordering.{AreOfFiles}
 
 -- the laws of the stages
