@@ -38,7 +38,7 @@ ends_for result collects files before after a b c d p q h =
     subst (λ (May : HostCall → Type 0). EndsReading May before after result) (same_needed collects files a b c d p q) h
 
 -- what a command sees of a host and of its output
-pub outside_of : HostView → HostView → SinkState → SinkState → Outside
+abbrev pub outside_of : HostView → HostView → SinkState → SinkState → Outside
 outside_of before after printed_before printed_after = record {
   files = before.files;
   reads_before = before.read_faults;
@@ -151,16 +151,16 @@ module _ (first_stop : List HostFile → List ℕ → List ℕ → Option (List 
 pub stopped : (first_stop : List HostFile → List ℕ → List ℕ → Option (List ℕ) → AcceptStop → Type 0)
     (program_of : List HostFile → List ℕ → List ℕ → Option (List ℕ) → Program → Type 0)
     (collects : List HostFile → List ℕ → List ℕ → List ℕ → Type 0) (is_accepted : Option (List ℕ) → Program → Type 0)
-    (app lib : List ℕ) (before after : HostView) (printed : SinkState) (s : AcceptStop)
+    (app lib : List ℕ) (before after : HostView) (sink : SinkState) (s : AcceptStop)
     → IfSome before.files (λ told. Tells (program_of told app lib None) (first_stop told app lib None) (Err s))
     → IfSome before.files (λ told. (t : AcceptStop) → first_stop told app lib None t → Fits t (Err s))
     → EndsReading {T = Program} (IsNeeded collects before.files app lib) before after (Err s)
-    → VerifyEnds first_stop program_of collects is_accepted app lib (outside_of before after printed printed) (outcome_of_stop s)
-stopped fs po co ia app lib before after printed (stop.Refused refusal) tells exact ends =
-    refused_ends fs po co ia app lib (outside_of before after printed printed) refusal tells exact ends.read_faults refl
-stopped fs po co ia app lib before after printed (stop.Limit quantity number) tells exact ends =
-    limit_ends fs po co ia app lib (outside_of before after printed printed) quantity number tells exact ends.read_faults refl
-stopped fs po co ia app lib before after printed (stop.ReadFault name) tells exact ends =
-    fault_ends fs po co ia app lib (outside_of before after printed printed) name ends.counted ends.told refl
-stopped fs po co ia app lib before after printed stop.Memory tells exact ends =
-    memory_ends fs po co ia app lib (outside_of before after printed printed) refl
+    → VerifyEnds first_stop program_of collects is_accepted app lib (outside_of before after sink sink) (outcome_of_stop s)
+stopped fs po co ia app lib before after sink (stop.Refused refusal) tells exact ends =
+    refused_ends fs po co ia app lib (outside_of before after sink sink) refusal tells exact ends.read_faults refl
+stopped fs po co ia app lib before after sink (stop.Limit quantity number) tells exact ends =
+    limit_ends fs po co ia app lib (outside_of before after sink sink) quantity number tells exact ends.read_faults refl
+stopped fs po co ia app lib before after sink (stop.ReadFault name) tells exact ends =
+    fault_ends fs po co ia app lib (outside_of before after sink sink) name ends.counted ends.told refl
+stopped fs po co ia app lib before after sink stop.Memory tells exact ends =
+    memory_ends fs po co ia app lib (outside_of before after sink sink) refl
