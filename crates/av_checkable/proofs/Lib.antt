@@ -1,0 +1,9 @@
+mod Lists
+mod Deciding
+mod Worlds
+mod Members
+mod Calls
+mod Constructors
+mod Cores
+mod Checking
+mod Folders

@@ -1,0 +1,4 @@
+pub mod Told
+pub mod Counting
+pub mod History
+pub mod Steps

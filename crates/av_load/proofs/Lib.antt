@@ -1,0 +1,9 @@
+mod FileNames
+mod Told
+mod Sources
+mod Stops
+mod Underway
+mod Sorting
+mod Next
+mod Whole
+mod Judging

@@ -1,0 +1,7 @@
+pub mod Orders
+mod Shaping
+pub mod Loading
+mod Giving
+mod Reading
+mod Collecting
+pub mod Answering

@@ -1,0 +1,7 @@
+mod FirstFailures
+mod FirstFiles
+mod Instructions
+mod Failing
+mod Ordering
+mod Stages
+mod Comparing

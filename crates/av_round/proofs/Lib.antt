@@ -1,0 +1,9 @@
+pub mod Numbers
+pub mod TwoWorlds
+pub mod Paths
+pub mod Meaning
+pub mod Completing
+pub mod Listed
+pub mod Finding
+pub mod Shapes
+pub mod Entries

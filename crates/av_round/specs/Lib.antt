@@ -1,0 +1,3 @@
+pub mod Listing
+pub mod Seeds
+pub mod Steps

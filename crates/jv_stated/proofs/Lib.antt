@@ -1,0 +1,5 @@
+pub mod Deciding
+pub mod Descriptors
+pub mod Rules
+pub mod Classes
+pub mod ShapeLemmas
