@@ -1,4 +1,6 @@
 ghost use Rattle.std.specs.Prelude.{◌≡◌};
+ghost use Rattle.jv_types.specs.declared.refusal.RulePlace.TheVariants.{Class};
+ghost use Rattle.av_stops.specs.FirstStops.{refused_at};
 ghost use Rattle.av_accept.specs.Steps.Stages.{stop_of};
 
 use av_app_files::passed;
@@ -7,7 +9,9 @@ use av_program::AcceptStop;
 use jv_types::{Name, Refusal, Rule, RulePlace};
 
 /// That a rule fails at the class of this name.
-fn refused(rule: Rule, name: Name) -> AcceptStop {
+fn refused(rule: Rule, name: Name) -> AcceptStop
+    ensures { result ≡ refused_at rule (Class name) }
+{
     AcceptStop::Refused(Refusal {
         rule,
         place: RulePlace::Class(name),
