@@ -1,6 +1,6 @@
 use Rattle.std.proofs.Common.{sym, subst, rules, ◌<◌}
 use Rattle.std.proofs.lemmas.Result.{err_from_is_err_and}
-use Rattle.av_accept.proofs.Typing.{stopped_at_instructions, stopped_at_main, stopped_at_method}
+use Rattle.av_accept.proofs.Outcomes.{stopped_at_instructions, stopped_at_main, stopped_at_method}
 use Rattle.av_accept.proofs.typing.program_of.Goals as goal
 
 pub returns-in_err-methods-clause-stopped : goal.returns-in_err-methods-clause-stopped
