@@ -1,0 +1,10 @@
+//! One round of collection: what an application can meet of the files of a library that were read so far.
+#![tactic(auto)]
+
+mod class_items;
+mod collecting;
+mod read_file;
+
+pub use class_items::ClassItems;
+pub use collecting::collected_over;
+pub use read_file::ReadFile;
