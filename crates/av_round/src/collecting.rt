@@ -4,7 +4,7 @@ ghost use Rattle.av_collected.specs.Libraries.{IsLibrary};
 ghost use Rattle.av_round.specs.Listing.{AreItems};
 
 use crate::class_items::ClassItems;
-use crate::read_file::ReadFile;
+use av_tables::ReadFile;
 use av_collected::MethodBody;
 use jv_types::{Name, Seq, Shape};
 use std::alloc::{AllocError, Global};

@@ -3,8 +3,7 @@
 
 mod class_items;
 mod collecting;
-mod read_file;
 
 pub use class_items::ClassItems;
 pub use collecting::collected_over;
-pub use read_file::ReadFile;
+pub use av_tables::ReadFile;
