@@ -1,7 +1,10 @@
 -- What an answer of a source says of a quantity that passes.
-use Rattle.std.proofs.Common.{◌≡◌, Option, Some, sym, ◌∙◌}
+use Rattle.std.proofs.Common.{◌≡◌, Option, Some, Err, sym, subst, ◌∙◌}
 use Rattle.jv_types.specs.declared.quantity.Quantity.{Quantity}
 use Rattle.jv_types.specs.declared.shapes.Shape.{Shape}
+use Rattle.jv_host.specs.declared.host.HostFault.{HostFault}
+use Rattle.jv_host.specs.declared.host.HostFault.TheVariants.{Memory}
+use Rattle.jv_host.specs.HostAnswer.{UnlessHostFailed}
 use Rattle.av_collected.specs.declared.found.ShapeFound.{ShapeFound}
 use Rattle.av_collected.specs.declared.found.ShapeFound.TheVariants as answers
 use Rattle.av_collected.specs.Sources.{TellsPassed}
@@ -27,3 +30,7 @@ module _ (found : ShapeFound) (passed : Option Quantity) (tells : TellsPassed fo
 
   pub passed_at : (quantity : Quantity) → found ≡ answers.TooMuch quantity → passed ≡ Some quantity
   passed_at quantity is = (tells quantity).0 is
+
+-- what stays unless the source failed stays where memory was wanting
+pub unless_memory : (fault : HostFault) (P : Type 0) → fault ≡ Memory → UnlessHostFailed {T = ShapeFound} (Err fault) P → P
+unless_memory fault P is h = subst (λ (f : HostFault). UnlessHostFailed {T = ShapeFound} (Err f) P) is h

@@ -1,5 +1,5 @@
 -- What collection asks of a source, and what it was told.
-use Rattle.std.specs.Prelude.{◌≡◌, ℕ, ◌++◌, ◌≢◌, ◌⊎◌, List, [], ◌∷◌, Option, Some, length, drop, Contains}
+use Rattle.std.specs.Prelude.{◌≡◌, ℕ, ◌++◌, ◌⊎◌, List, [], ◌∷◌, Option, Some, length, drop, Contains}
 use Rattle.jv_types.specs.declared.shapes.Shape.{Shape}
 use Rattle.av_collected.specs.declared.method_body.MethodBody.{MethodBody}
 use Rattle.av_collected.specs.Libraries.{LibraryFile, IsLibrary}

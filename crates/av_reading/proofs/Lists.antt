@@ -1,5 +1,5 @@
 -- Lists of names, none of which stands twice.
-use Rattle.std.proofs.Common.{◌≡◌, ℕ, zero, suc, ◌<◌, ◌≤◌, ◌⊎◌, inl, inr, List, [], ◌∷◌, ◌++◌, length, take, drop, get_or, Contains, refl, ap, sym, ◌∙◌, subst, arith, take-append-drop, drop-cons, length-append, append_assoc}
+use Rattle.std.proofs.Common.{◌≡◌, ℕ, suc, ◌<◌, ◌≤◌, inl, inr, List, [], ◌∷◌, ◌++◌, length, take, drop, get_or, Contains, ap, sym, ◌∙◌, subst, arith, take-append-drop, drop-cons, length-append}
 use Rattle.std.proofs.lemmas.List.Elements.{Contains-append_left, Contains-append_right, Contains-append_cases}
 use Rattle.av_collected.proofs.Lists.{in_head, in_tail, of_cons, in_none}
 use Rattle.av_asked.specs.Asking.{AreDistinct}

@@ -1,5 +1,5 @@
 -- What was read, after one name more and after many.
-use Rattle.std.proofs.Common.{◌≡◌, ℕ, ◌+◌, ◌<◌, Bool, true, false, IsTrue, ◌↔◌, Result, IfErr, length, take, get_or, ◌⊎◌, inl, inr, List, [], ◌∷◌, ◌++◌, Option, None, Some, IfSome, map, Contains, refl, ap, sym, ◌∙◌, subst, arith, append_assoc, append-nil}
+use Rattle.std.proofs.Common.{◌≡◌, ℕ, ◌+◌, ◌<◌, Bool, true, false, IsTrue, ◌↔◌, Result, IfErr, length, take, get_or, ◌⊎◌, inl, inr, List, [], ◌∷◌, ◌++◌, Option, Some, IfSome, map, Contains, refl, ap, sym, ◌∙◌, subst, append_assoc, append-nil}
 use Rattle.std.specs.Result.{IsErrAnd}
 use Rattle.std.proofs.lemmas.List.{map_push, take_more}
 use Rattle.std.proofs.lemmas.Result.{err_from_is_err_and}
@@ -7,14 +7,14 @@ use Rattle.std.proofs.lemmas.List.Elements.{Contains-append_left, Contains-appen
 use Rattle.jv_types.specs.declared.shapes.Shape.{Shape}
 use Rattle.av_collected.specs.declared.stop.CollectStop.{CollectStop}
 use Rattle.av_collected.specs.declared.stop.CollectStop.TheVariants.{Memory}
-use Rattle.av_collected.specs.Libraries.{LibraryFile, IsLibrary, IsLibraryShape, HasFile}
+use Rattle.av_collected.specs.Libraries.{LibraryFile, IsLibraryShape, HasFile}
 use Rattle.av_collected.specs.Rounds.{IsInside}
 use Rattle.av_collected.proofs.Lists.{in_head, in_tail, of_cons, in_none}
 use Rattle.av_round.specs.declared.class_items.ClassItems.{ClassItems}
 use Rattle.av_asked.specs.declared.look.Look.{Look}
 use Rattle.av_asked.specs.declared.look.Look.TheVariants.{Absent, File}
 use Rattle.av_reading.specs.declared.reading.Reading.{Reading}
-use Rattle.av_asked.specs.Asking.{AreDistinct, AreStated, IsTold}
+use Rattle.av_asked.specs.Asking.{AreDistinct}
 use Rattle.av_reading.specs.Progress.{Goes, IsOneOf}
 use Rattle.av_asked.specs.Read.{HasFound, HasRead, IsFitLook, IsFitShape, files_with}
 use Rattle.av_asked.specs.Sources.{SourceState, Ran, Stops, StopsAmong}
@@ -254,18 +254,35 @@ stop_is {T} {E} r P e h p =
     let t = err_from_is_err_and {Q = λ (y : E). y ≡ e} r h in
     subst (λ (x : Result T E). IfErr x P) (sym t.1) (subst P (sym t.2) p)
 
+-- the source stopped at this one name, or memory was wanting after it
+pub one_stop : {T : Type 0} (r : Result T CollectStop) (earlier : List (List ℕ)) (a b : SourceState) (stop : CollectStop) (name : List ℕ) → IsErrAnd r (λ e. e ≡ stop)
+    → AreDistinct earlier → (Contains earlier name → ⊥) → Stops a b stop (name ∷ []) → IfErr r (StopsAmong (λ other. other ≡ name) earlier a b)
+one_stop {T} r earlier a b stop name is once fresh stops =
+    stop_is r (StopsAmong (λ other. other ≡ name) earlier a b) stop is (stops_one earlier a b stop name once fresh stops)
+
+pub memory_stop : {T : Type 0} (r : Result T CollectStop) (earlier : List (List ℕ)) (a b : SourceState) (name : List ℕ) → IsErrAnd r (λ e. e ≡ Memory)
+    → AreDistinct earlier → (Contains earlier name → ⊥) → Ran a b (name ∷ []) → IfErr r (StopsAmong (λ other. other ≡ name) earlier a b)
+memory_stop {T} r earlier a b name is once fresh ran = one_stop r earlier a b Memory name is once fresh (memory_after a b (name ∷ []) ran)
+
 -- a test that failed
 pub not_there : (b : Bool) (P : Type 0) → IsTrue b ↔ P → b ≡ false → P → ⊥
 not_there b P h is p = let t : b ≡ true = h.1 p in absurd cc
 
 -- ---- reading classes
 
-pub all_stops : (classes : List ClassItems) (class : ClassItems) (known : Shape → Type 0) (a b c : SourceState) (old mid : Reading) (stop : CollectStop) → Contains classes class
+all_stops : (classes : List ClassItems) (class : ClassItems) (known : Shape → Type 0) (a b c : SourceState) (old mid : Reading) (stop : CollectStop) → Contains classes class
     → Goes (IsOneOf classes) known a b old mid → StopsAmong (λ other. other ≡ class.name) mid.asked b c stop → StopsAmong (IsOneOf classes) old.asked a c stop
 all_stops classes class known a b c old mid stop here goes s =
     among_later (IsOneOf classes) old.asked goes.names a b c stop goes.ran goes.each
     (subst (λ (l : List (List ℕ)). StopsAmong (IsOneOf classes) l b c stop) goes.asked
     (among_weaker (λ other. other ≡ class.name) (IsOneOf classes) mid.asked b c stop (one_of classes class here) s))
+
+-- the source stopped at one of the classes
+pub class_stop : {T : Type 0} (r : Result T CollectStop) (classes : List ClassItems) (class : ClassItems) (known : Shape → Type 0) (a b c : SourceState) (old mid : Reading) (stop : CollectStop)
+    → IsErrAnd r (λ e. e ≡ stop) → Contains classes class → Goes (IsOneOf classes) known a b old mid → StopsAmong (λ other. other ≡ class.name) mid.asked b c stop
+    → IfErr r (StopsAmong (IsOneOf classes) old.asked a c)
+class_stop {T} r classes class known a b c old mid stop is here goes s =
+    stop_is r (StopsAmong (IsOneOf classes) old.asked a c) stop is (all_stops classes class known a b c old mid stop here goes s)
 
 pub all_next : (classes : List ClassItems) (k : ℕ) (class : ClassItems) (P : List ℕ → Type 0) (known : Shape → Type 0) (b c : SourceState) (mid new : Reading)
     → k < length classes → class ≡ get_or classes k class → ((other : ClassItems) → Contains (take k classes) other → Contains mid.asked other.name) → Goes P known b c mid new → Contains new.asked class.name

@@ -1,5 +1,6 @@
 -- Round after round: what was read so far, and what is read in the end.
-use Rattle.std.proofs.Common.{◌≡◌, ℕ, zero, suc, ◌+◌, ◌-◌, ◌<◌, ◌≤◌, ◌⊎◌, inl, inr, List, [], ◌∷◌, ◌++◌, Option, Some, length, map, Contains, refl, ap, sym, ◌∙◌, subst, arith, length-append}
+use Rattle.std.proofs.Common.{◌≡◌, ℕ, zero, suc, ◌+◌, ◌-◌, ◌<◌, ◌≤◌, inl, inr, List, [], ◌∷◌, Option, Result, IfErr, length, map, Contains, refl, ap, sym, ◌∙◌, subst, arith, length-append}
+use Rattle.std.specs.Result.{IsErrAnd}
 use Rattle.std.proofs.lemmas.List.Elements.{Contains-append_cases}
 use Rattle.jv_types.specs.declared.quantity.Quantity.TheVariants.{Classes}
 use Rattle.jv_types.specs.declared.shapes.Shape.{Shape}
@@ -15,12 +16,12 @@ use Rattle.av_round.specs.declared.class_items.ClassItems.{ClassItems}
 use Rattle.av_round.specs.Listing.{AreItems}
 use Rattle.av_reading.specs.declared.reading.Reading.{Reading}
 use Rattle.av_asked.specs.Asking.{IsTold}
-use Rattle.av_reading.specs.Progress.{Goes, IsCollectedOver, IsOneOf, IsWhole, StopsFor, StopsForMany}
+use Rattle.av_reading.specs.Progress.{Goes, IsCollectedOver, IsOneOf, IsWhole, StopsFor}
 use Rattle.av_asked.specs.Read.{HasRead}
 use Rattle.av_asked.specs.Sources.{SourceState, Ran, StopsAmong}
 use Rattle.av_reading.proofs.Lists.{no_more}
 use Rattle.av_reading.proofs.Moves.{ran_none, ran_on, among_later, among_weaker}
-use Rattle.av_reading.proofs.ReadLemmas.{memory_before, read_none}
+use Rattle.av_reading.proofs.ReadLemmas.{memory_before, read_none, stop_is}
 
 -- what was read so far belongs to classes that are collected over it
 pub record IsUnderway (given : Application) (known : Shape → Type 0) (before after : SourceState) (reading : Reading) : Type 0 where
@@ -60,100 +61,113 @@ as_many (class ∷ classes) = ap suc (as_many classes)
 abbrev pub CollectedGrows : Type 0
 CollectedGrows = (given : Application) (part library : List LibraryFile) → IsInside part library → (item : Item) → IsCollected given part item → IsCollected given library item
 
-module _ (grows : CollectedGrows) (given : Application) (known : Shape → Type 0) (a b : SourceState) (reading : Reading) (classes : List ClassItems)
-    (so_far : IsUnderway given known a b reading) (items : AreItems given reading.files.items classes) where
-  -- no more was asked for than is collected
-  pub few : length reading.asked ≤ length classes
-  few =
-      let h = no_more reading.asked (map (λ c. c.name) classes) so_far.read.once
-      (λ name h. in_named classes name ((items.exact (ClassNamed name)).0 (so_far.only name h))) in
-      omega (arith, h, as_many classes)
-
+module _ (grows : CollectedGrows) (given : Application) (known : Shape → Type 0) (a b : SourceState) (reading : Reading) (so_far : IsUnderway given known a b reading) where
   over : (name : List ℕ) → IsCollected given reading.files.items (ClassNamed name) → IsCollectedOver given a.shapes name
   over name h library told = grows given reading.files.items library (so_far.read.inside library told.told) (ClassNamed name) h
 
-  pub stops_underway : (c : SourceState) (stop : CollectStop) → StopsAmong (IsOneOf classes) reading.asked b c stop → StopsFor given a c stop
-  stops_underway c stop s =
-      inr (among_later (IsCollectedOver given a.shapes) [] reading.asked a b c stop so_far.ran
-      (λ name h. over name (so_far.only name h))
-      (among_weaker (IsOneOf classes) (IsCollectedOver given a.shapes) reading.asked b c stop (λ name h. over name ((items.exact (ClassNamed name)).1 h)) s))
+  -- what stopped later was asked for names of classes that are collected
+  stops_later : (c : SourceState) (stop : CollectStop) → StopsAmong (IsCollectedOver given a.shapes) reading.asked b c stop → StopsFor given a c stop
+  stops_later c stop s =
+      inr (among_later (IsCollectedOver given a.shapes) [] reading.asked a b c stop so_far.ran (λ name h. over name (so_far.only name h)) s)
 
-  too_many : (library : List LibraryFile) → IsTold a.shapes library → 8000 < length classes → AreTooMany given library
-  too_many library told more = record {
-    names = map (λ c. c.name) classes;
-    rising = items.rising;
-    more = let e = as_many classes in omega (arith, e, more);
-    each = λ name h. over name ((items.exact (ClassNamed name)).1 (named_in classes name h)) library told;
-  }
+  pub memory_stop : {T : Type 0} (r : Result T CollectStop) → IsErrAnd r (λ stop. stop ≡ Memory) → IfErr r (StopsFor given a b)
+  memory_stop {T} r is =
+      stop_is r (StopsFor given a b) Memory is
+      (stops_later b Memory (memory_before (IsCollectedOver given a.shapes) reading.asked b so_far.read.once))
 
-  pub stops_for_many : (stop : CollectStop) → stop ≡ Limit Classes → 8000 < length classes → StopsFor given a b stop
-  stops_for_many stop is more = inl (record {
-    names = reading.asked;
-    each = λ name h. over name (so_far.only name h);
-    once = so_far.read.once;
-    ran = so_far.ran;
-    is = is;
-    many = λ library told. too_many library told more;
-  })
+  module _ (files : List LibraryFile) (are_read : files ≡ reading.files.items) (classes : List ClassItems) (found : AreItems given files classes) where
+    items : AreItems given reading.files.items classes
+    items = subst (λ (l : List LibraryFile). AreItems given l classes) are_read found
 
-  module _ (c : SourceState) (new : Reading) (goes : Goes (IsOneOf classes) known b c reading new) where
-    ran_more : Ran a c new.asked
-    ran_more = subst (λ (l : List (List ℕ)). Ran a c l) (sym goes.asked) (ran_on a b c reading.asked goes.names so_far.ran goes.ran)
+    -- no more was asked for than is collected
+    few : length reading.asked ≤ length classes
+    few =
+        let h = no_more reading.asked (map (λ c. c.name) classes) so_far.read.once
+        (λ name h. in_named classes name ((items.exact (ClassNamed name)).0 (so_far.only name h))) in
+        omega (arith, h, as_many classes)
 
-    read_more : HasRead a.shapes known new.files.items new.asked
-    read_more = subst (λ (t : Option (List LibraryFile)). HasRead t known new.files.items new.asked) so_far.ran.moved.shapes goes.read
+    too_many : (library : List LibraryFile) → IsTold a.shapes library → 8000 < length classes → AreTooMany given library
+    too_many library told more = record {
+      names = map (λ c. c.name) classes;
+      rising = items.rising;
+      more = let e = as_many classes in omega (arith, e, more);
+      each = λ name h. over name ((items.exact (ClassNamed name)).1 (named_in classes name h)) library told;
+    }
 
-    only_more : (name : List ℕ) → Contains new.asked name → IsCollected given new.files.items (ClassNamed name)
-    only_more name h =
-        grows given reading.files.items new.files.items goes.inside (ClassNamed name)
-        (elim (Contains-append_cases reading.asked goes.names name (subst (λ (l : List (List ℕ)). Contains l name) goes.asked h)) [
-          | inl there ↦ so_far.only name there
-          | inr there ↦ (items.exact (ClassNamed name)).1 (goes.each name there)
-        ])
+    pub many_stop : 8000 < length classes → StopsFor given a b (Limit Classes)
+    many_stop more = inl (record {
+      names = reading.asked;
+      each = λ name h. over name (so_far.only name h);
+      once = so_far.read.once;
+      ran = so_far.ran;
+      is = refl;
+      many = λ library told. too_many library told more;
+    })
 
-    pub underway_more : IsUnderway given known a c new
-    underway_more = record { ran = ran_more; read = read_more; only = only_more }
+    module _ (seen : List ClassItems) (are_seen : seen ≡ classes) where
+      pub source_stop : {T : Type 0} (r : Result T CollectStop) (c : SourceState) (stop : CollectStop) → IsErrAnd r (λ e. e ≡ stop)
+          → StopsAmong (IsOneOf seen) reading.asked b c stop → IfErr r (StopsFor given a c)
+      source_stop {T} r c stop is s =
+          stop_is r (StopsFor given a c) stop is
+          (stops_later c stop
+          (among_weaker (IsOneOf classes) (IsCollectedOver given a.shapes) reading.asked b c stop (λ name h. over name ((items.exact (ClassNamed name)).1 h))
+          (subst (λ (l : List ClassItems). StopsAmong (IsOneOf l) reading.asked b c stop) are_seen s)))
 
-    longer : length new.asked ≡ length reading.asked + length goes.names
-    longer = ap (length {A = List ℕ}) goes.asked ∙ length-append reading.asked goes.names
+      module _ (c : SourceState) (new : Reading) (seen_goes : Goes (IsOneOf seen) known b c reading new) where
+        goes : Goes (IsOneOf classes) known b c reading new
+        goes = subst (λ (l : List ClassItems). Goes (IsOneOf l) known b c reading new) are_seen seen_goes
 
-    -- each round but the last asks for more
-    pub nearer : length classes ≤ 8000 → (length new.asked ≡ length reading.asked → ⊥) → 8001 - length new.asked < 8001 - length reading.asked
-    nearer at_most more =
-        let e = longer in
-        let f = few in
-        by (length goes.names) refl
-      where
-        by : (n : ℕ) → length goes.names ≡ n → 8001 - length new.asked < 8001 - length reading.asked
-        by zero none = absurd (more (omega (arith, longer, none)))
-        by (suc n) some = omega (arith, longer, some, few, at_most)
+        ran_more : Ran a c new.asked
+        ran_more = subst (λ (l : List (List ℕ)). Ran a c l) (sym goes.asked) (ran_on a b c reading.asked goes.names so_far.ran goes.ran)
 
-    none_more : length new.asked ≡ length reading.asked → goes.names ≡ []
-    none_more same = by goes.names (let e = longer in omega (arith, e, same))
-      where
-        by : (names : List (List ℕ)) → length names ≡ 0 → names ≡ []
-        by [] none = refl
-        by (name ∷ names) some = absurd (omega (arith, some))
+        read_more : HasRead a.shapes known new.files.items new.asked
+        read_more = subst (λ (t : Option (List LibraryFile)). HasRead t known new.files.items new.asked) so_far.ran.moved.shapes goes.read
 
-    pub whole : length new.asked ≡ length reading.asked → length classes ≤ 8000 → ((class : ClassItems) → Contains classes class → Contains new.asked class.name)
-        → IsWhole given known a c new.files.items classes
-    whole same at_most all =
-        let files : new.files.items ≡ reading.files.items = goes.idle (none_more same) in
-        record {
-          names = new.asked;
-          ran = ran_more;
-          read = read_more;
-          items = subst (λ (l : List LibraryFile). AreItems given l classes) (sym files) items;
-          all = λ name h.
-              let one = (items.exact (ClassNamed name)).0 (subst (λ (l : List LibraryFile). IsCollected given l (ClassNamed name)) files h) in
-              subst (λ (n : List ℕ). Contains new.asked n) one.2 (all one.0 one.1);
-          only = only_more;
-          few = at_most;
-        }
+        only_more : (name : List ℕ) → Contains new.asked name → IsCollected given new.files.items (ClassNamed name)
+        only_more name h =
+            grows given reading.files.items new.files.items goes.inside (ClassNamed name)
+            (elim (Contains-append_cases reading.asked goes.names name (subst (λ (l : List (List ℕ)). Contains l name) goes.asked h)) [
+              | inl there ↦ so_far.only name there
+              | inr there ↦ (items.exact (ClassNamed name)).1 (goes.each name there)
+            ])
 
-pub memory_underway : CollectedGrows → (given : Application) (known : Shape → Type 0) (a b : SourceState) (reading : Reading) (stop : CollectStop) → IsUnderway given known a b reading → stop ≡ Memory → StopsFor given a b stop
-memory_underway grows given known a b reading stop so_far is =
-    subst (λ (s : CollectStop). StopsFor given a b s) (sym is)
-    (inr (among_later (IsCollectedOver given a.shapes) [] reading.asked a b b Memory so_far.ran
-    (λ name h library told. grows given reading.files.items library (so_far.read.inside library told.told) (ClassNamed name) (so_far.only name h))
-    (memory_before (IsCollectedOver given a.shapes) reading.asked b so_far.read.once)))
+        pub underway_more : IsUnderway given known a c new
+        underway_more = record { ran = ran_more; read = read_more; only = only_more }
+
+        longer : length new.asked ≡ length reading.asked + length goes.names
+        longer = ap (length {A = List ℕ}) goes.asked ∙ length-append reading.asked goes.names
+
+        -- each round but the last asks for more
+        pub nearer : length classes ≤ 8000 → (length new.asked ≡ length reading.asked → ⊥) → 8001 - length new.asked < 8001 - length reading.asked
+        nearer at_most more =
+            let e = longer in
+            let f = few in
+            by (length goes.names) refl
+          where
+            by : (n : ℕ) → length goes.names ≡ n → 8001 - length new.asked < 8001 - length reading.asked
+            by zero none = absurd (more (omega (arith, longer, none)))
+            by (suc n) some = omega (arith, longer, some, few, at_most)
+
+        none_more : length new.asked ≡ length reading.asked → goes.names ≡ []
+        none_more same = by goes.names (let e = longer in omega (arith, e, same))
+          where
+            by : (names : List (List ℕ)) → length names ≡ 0 → names ≡ []
+            by [] none = refl
+            by (name ∷ names) some = absurd (omega (arith, some))
+
+        pub whole : length new.asked ≡ length reading.asked → length classes ≤ 8000 → ((class : ClassItems) → Contains seen class → Contains new.asked class.name)
+            → IsWhole given known a c new.files.items classes
+        whole same at_most all =
+            let same_files : new.files.items ≡ reading.files.items = goes.idle (none_more same) in
+            record {
+              names = new.asked;
+              ran = ran_more;
+              read = read_more;
+              items = subst (λ (l : List LibraryFile). AreItems given l classes) (sym same_files) items;
+              all = λ name h.
+                  let one = (items.exact (ClassNamed name)).0 (subst (λ (l : List LibraryFile). IsCollected given l (ClassNamed name)) same_files h) in
+                  let here : Contains seen one.0 = subst (λ (l : List ClassItems). Contains l one.0) (sym are_seen) one.1 in
+                  subst (λ (n : List ℕ). Contains new.asked n) one.2 (all one.0 here);
+              only = only_more;
+              few = at_most;
+            }

@@ -14,7 +14,7 @@ use Rattle.av_round.specs.Listing.{AreItems}
 use Rattle.av_reading.specs.declared.reading.Reading.{Reading}
 use Rattle.av_asked.specs.Asking.{AreDistinct, IsTold}
 use Rattle.av_asked.specs.Read.{HasRead}
-use Rattle.av_asked.specs.Sources.{SourceState, Moved, IsFaultless, Ran, StopsAmong}
+use Rattle.av_asked.specs.Sources.{SourceState, Ran, StopsAmong}
 
 -- one of the classes has this name
 abbrev pub IsOneOf : List ClassItems → List ℕ → Type 0

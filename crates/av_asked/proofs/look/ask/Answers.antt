@@ -1,5 +1,5 @@
-use Rattle.std.proofs.Common.{◌≡◌, ◌∙◌, [], inl, inr, refl, sym, append-nil}
-use Rattle.av_asked.proofs.Asked.{not_at_absent, not_at_malformed, not_at_shape, passed_at}
+use Rattle.std.proofs.Common.{◌∙◌, [], inl, inr, refl, sym, append-nil}
+use Rattle.av_asked.proofs.Asked.{not_at_absent, not_at_malformed, not_at_shape, passed_at, unless_memory}
 use Rattle.av_asked.proofs.look.ask.Goals as goal
 
 pub returns-in-Ok-Shape-clause-ran : goal.returns-in-Ok-Shape-clause-ran
@@ -88,5 +88,8 @@ returns-in-Err-Memory-clause-stops g c =
         passed = e.passed_stays;
         faults = e.never_falls;
       };
-      faultless = record { faults = e.faults_kept; failed = e.failed_kept };
+      faultless = record {
+        faults = unless_memory c.in-Err-Memory.field-0 _ c.in-Err-Memory.field-0-is e.faults_kept;
+        failed = unless_memory c.in-Err-Memory.field-0 _ c.in-Err-Memory.field-0-is e.failed_kept;
+      };
     }
