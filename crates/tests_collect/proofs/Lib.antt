@@ -1,0 +1,4 @@
+pub mod Walks
+pub mod BoundLemmas
+pub mod LibraryLemmas
+pub mod FoundLemmas
