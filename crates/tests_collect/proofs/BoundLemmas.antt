@@ -70,3 +70,10 @@ ref_small desc dims capped is cap = by (nat_le (dims_of desc) 255) refl
   where
     by : (b : Bool) → nat_le (dims_of desc) 255 ≡ b → nat_le capped 255 ≡ b
     by b h = grind (arith, nat_tests, is, cap, h)
+
+pub small_both : (desc : MethodDesc) (types : List Desc) (each last : Bool) → types ≡ desc.params → each ≡ list_all is_small_type types → each ≡ true → last ≡ is_small_result desc.result
+    → last ≡ has_small_parts desc
+unfolding has_small_parts
+small_both desc types each last are is passed ends =
+    let all : list_all is_small_type desc.params ≡ true = subst (λ (l : List Desc). list_all is_small_type l ≡ true) are (sym is ∙ passed) in
+    ends ∙ ap (λ (b : Bool). b && is_small_result desc.result) (sym all)

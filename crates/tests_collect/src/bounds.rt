@@ -41,12 +41,19 @@ fn is_small_result(desc: &Option<Desc>) -> bool
     }
 }
 
+/// Whether types have at most 255 dimensions.
+fn are_small_types(types: &[Desc]) -> bool
+    ensures { result ≡ list_all is_small_type types.now }
+{
+    types.iter().all(|of| is_small_type(of))
+}
+
 /// Whether each parameter and the result have at most 255 dimensions.
 #[tactic(auto, unfolding(crate::specs::Bounds::has_small_parts))]
 fn has_small_parts(desc: &MethodDesc) -> bool
     ensures { result ≡ has_small_parts desc.now }
 {
-    desc.params.as_slice().iter().all(|of| is_small_type(of)) && is_small_result(&desc.result)
+    are_small_types(desc.params.as_slice()) && is_small_result(&desc.result)
 }
 
 /// Whether the type of a field has at most 255 dimensions.
