@@ -6,6 +6,8 @@
 //!
 //! - `run|NAME|WORDS|FILES|HOST FAULTS|STEP|OUT FAULTS|ERR FAULTS`: a command over a host in memory, and over
 //!   sinks in memory that take STEP bytes a call. The faults are the numbers of the calls that fail.
+//! - `words|NAME|WORDS`: what words ask for.
+//! - `outcome|NAME|KIND|ABOUT`: the status of an outcome about a file, class or root, and what err is told.
 //! - `memory|NAME|FILES|FAULTS|CALLS`: calls of a host in memory, and what was written.
 //! - `folder|NAME|CALLS`: calls of a host over folders.
 //! - `sink|NAME|STEP|FAULTS|PIECES`: pieces handed to a sink in memory, and what it took.
@@ -18,14 +20,18 @@
 
 mod commands;
 mod hosts;
+mod outcomes;
 mod reading;
 mod sinks;
+mod words;
 
 use anyhow::{Result, bail};
 use commands::run_row;
 use hosts::{folder_row, memory_row};
+use outcomes::outcome_row;
 use reading::{field, file_of, parts};
 use sinks::{full_row, sink_row, stream_row};
+use words::words_row;
 
 /// What came of a row.
 fn row(rt: &HostRuntime, line: &str) -> Result<()> {
@@ -33,6 +39,8 @@ fn row(rt: &HostRuntime, line: &str) -> Result<()> {
     println!(rt; "{}: {}", field(&fields, 0)?, field(&fields, 1)?)?;
     match field(&fields, 0)? {
         "run" => run_row(rt, &fields),
+        "words" => words_row(rt, &fields),
+        "outcome" => outcome_row(rt, &fields),
         "memory" => memory_row(rt, &fields),
         "folder" => folder_row(rt, &fields),
         "sink" => sink_row(rt, &fields),
