@@ -1,4 +1,5 @@
 -- What the stages of acceptance tell is the program of two folders, or what comes first in them.
+use Rattle.std.specs.Prelude.{⊤}
 use Rattle.std.proofs.Common.{◌≡◌, ℕ, List, Option, None, Some, Result, Ok, Err, IfErr, IfOk, sym, subst}
 use Rattle.jv_types.specs.declared.shapes.Shape.{Shape}
 use Rattle.jv_class.specs.declared.class_file.ClassFile.{ClassFile}
@@ -91,8 +92,8 @@ told_in_files told app lib main stop p =
     in_weaker told app lib (λ folders. IfStop (StopsInFiles folders) stop) (Answers main (Err stop))
     (λ folders. tells_stop (IsProgram folders main) (StopsInFiles folders) (FirstStop folders main) stop (λ s is. first.in_files is)) p
 
-pub told_nothing : (told : Option (List HostFile)) (app lib : List ℕ) (main : Option (List ℕ)) → InFolders told app lib (Answers main (Err Memory))
-told_nothing told app lib main = in_folders told app lib (Answers main (Err Memory)) (λ folders. tt)
+pub told_nothing : (told : Option (List HostFile)) (app lib : List ℕ) → InFolders told app lib (λ folders. ⊤)
+told_nothing told app lib = in_folders told app lib (λ folders. ⊤) (λ folders. tt)
 
 pub told_application : (told : Option (List HostFile)) (app lib : List ℕ) (files classes : List ClassFile) (given : Application) → ((folders : Folders) → AreAllLoaded folders files → IsApplication folders classes given)
     → InFolders told app lib (λ folders. AreAllLoaded folders files) → InFolders told app lib (λ folders. IsApplication folders classes given)

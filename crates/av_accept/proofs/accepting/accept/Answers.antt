@@ -1,11 +1,15 @@
-use Rattle.std.proofs.Common.{ℕ, List, Option, map, Ok, Err, subst}
+use Rattle.std.proofs.Common.{Bor, ℕ, List, Option, map, Ok, Err, subst}
 use Rattle.std.proofs.lemmas.Result.{IfOk-from_err, IfOk-weaker, err_from_is_err_and}
+use Rattle.std.specs.Prelude.{option_map}
+use Rattle.jv_types.specs.declared.name.Name.{Name}
 use Rattle.av_load.specs.declared.app_class.AppClass.{AppClass}
 use Rattle.av_program.specs.Answering.{IfStop}
 use Rattle.av_program.specs.declared.accept_stop.AcceptStop.TheVariants.{Memory}
 use Rattle.av_given.specs.Givens.{application_of}
 use Rattle.av_load.proofs.Told.{in_same}
 use Rattle.av_stages.specs.Stages.{IsCollectedFrom, StopsBuilding, StopsCollecting}
+use Rattle.av_acceptor.specs.Accepting.{IsNeeded}
+use Rattle.av_accept.specs.Meanings.{Collects}
 use Rattle.av_accept.proofs.Calls.{reads_both, reads_both_stop, reads_files, reads_lacking, reads_no_more}
 use Rattle.av_accept.proofs.Telling.{Laws, accepted_program, exact_answer, told_application, told_built, told_collecting, told_in_files, told_nothing}
 use Rattle.av_accept.proofs.accepting.accept.Goals as goal
@@ -38,7 +42,7 @@ returns-in_err-loaded-clause-ends g c =
 pub returns-in_err-known-clause-tells : goal.returns-in_err-known-clause-tells
 returns-in_err-known-clause-tells g c =
     let p = err_from_is_err_and c.from_residual-in_err-known.result c.from_residual-in_err-known.ensures.1 in
-    rw (p.1, p.2) (told_nothing (g.H.Host.files c.args.host.now) c.args.app.now c.args.lib.now _)
+    rw (p.1, p.2) (told_nothing (g.H.Host.files c.args.host.now) c.args.app.now c.args.lib.now)
 
 pub returns-in_err-known-clause-exact : goal.returns-in_err-known-clause-exact
 returns-in_err-known-clause-exact g c =
@@ -147,8 +151,9 @@ pub returns-clause-ends : goal.returns-clause-ends
 returns-clause-ends g c =
     let told = g.H.Host.files c.args.host.now in
     let classes = c.in_ok-known.known.files.items in
+    let main = option_map (λ (name : Bor Name). name.now) c.args.main in
     let given = application_of c.in_ok-known.known.given in
     let application = told_application told c.args.app.now c.args.lib.now (map (λ (class : AppClass). class.file) c.in_ok-loaded.loaded.items) classes given c.in_ok-known.ensures.told c.in_ok-loaded.ensures.loaded in
-    (reads_no_more _ _ _ _ c.in_ok-found.found c.build.result c.build.ensures.stopped
+    (reads_no_more (IsNeeded Collects told c.args.app.now c.args.lib.now) (StopsBuilding classes given c.in_ok-found.found main) _ _ c.in_ok-found.found c.build.result c.build.ensures.stopped
     (reads_both told c.args.app.now c.args.lib.now classes given _ _ _ c.in_ok-loaded.loaded (Ok c.in_ok-found.found) application c.in_ok-loaded.ensures.reads c.in_ok-loaded.ensures.reads.kept.files
     c.in_ok-found.ensures.reads)).ends
