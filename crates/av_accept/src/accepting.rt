@@ -7,8 +7,10 @@ ghost use Rattle.av_accept.specs.Meanings.{Collects, FirstStopOf, IsAccepted, Pr
 
 use av_acceptor::Acceptor;
 use av_build::build;
+use av_checkable::accepted_programs_are_checkable;
 use av_gathered::gather;
 use av_load::load_files;
+use av_one_stop::first_stops_fit;
 use av_program::{AcceptStop, Program};
 use av_stages::give;
 use jv_host::Host;
@@ -52,6 +54,8 @@ pub fn accept<H: Host>(
         (record { files = H.files host.old; written = H.written host.old; calls = H.calls host.old; failed = H.failed host.old; read_faults = H.read_faults host.old; write_faults = H.write_faults host.old })
         (record { files = H.files host.new; written = H.written host.new; calls = H.calls host.new; failed = H.failed host.new; read_faults = H.read_faults host.new; write_faults = H.write_faults host.new }) result }
 {
+    first_stops_fit();
+    accepted_programs_are_checkable();
     let loaded = load_files(alloc, host, app, lib)?;
     let known = give(alloc, loaded)?;
     let found = gather(alloc, host, lib, &known.given)?;
