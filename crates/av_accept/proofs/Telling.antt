@@ -1,6 +1,6 @@
 -- What the stages of acceptance tell is the program of two folders, or what comes first in them.
 use Rattle.std.specs.Prelude.{⊤}
-use Rattle.std.proofs.Common.{◌≡◌, ℕ, List, Option, None, Some, Result, Ok, Err, IfErr, IfOk, sym, subst}
+use Rattle.std.proofs.Common.{ℕ, List, Option, None, Some, Result, Ok, Err, IfErr, IfOk, sym, subst}
 use Rattle.jv_types.specs.declared.shapes.Shape.{Shape}
 use Rattle.jv_class.specs.declared.class_file.ClassFile.{ClassFile}
 use Rattle.av_collected.specs.declared.collected.Collected.{Collected}

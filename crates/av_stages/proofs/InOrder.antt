@@ -16,7 +16,7 @@ use Rattle.av_app_files.specs.Folders.{Folders}
 use Rattle.av_app_files.specs.FileRules.{AreAllLoaded, HasReservedName}
 use Rattle.av_stops.specs.Applications.{IsApplication, IsGivenBy}
 use Rattle.av_stops.specs.Programs.{IsOfFile}
-use Rattle.av_given.specs.Givens.{AreOfFiles, AreShaped}
+use Rattle.av_given.specs.Givens.{AreShaped}
 use Rattle.av_load.specs.declared.app_class.AppClass.{AppClass}
 use Rattle.av_load.specs.Classes.{AreClasses, IsAppClass}
 use Rattle.av_stages.specs.Stages.{IsKnown}

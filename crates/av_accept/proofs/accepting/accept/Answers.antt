@@ -1,10 +1,9 @@
-use Rattle.std.proofs.Common.{Bor, ℕ, List, Option, map, Ok, Err, subst}
-use Rattle.std.proofs.lemmas.Result.{IfOk-from_err, IfOk-weaker, err_from_is_err_and}
+use Rattle.std.proofs.Common.{Bor, map, Ok}
+use Rattle.std.proofs.lemmas.Result.{IfOk-weaker, err_from_is_err_and}
 use Rattle.std.specs.Prelude.{option_map}
 use Rattle.jv_types.specs.declared.name.Name.{Name}
 use Rattle.av_load.specs.declared.app_class.AppClass.{AppClass}
 use Rattle.av_program.specs.Answering.{IfStop}
-use Rattle.av_program.specs.declared.accept_stop.AcceptStop.TheVariants.{Memory}
 use Rattle.av_given.specs.Givens.{application_of}
 use Rattle.av_load.proofs.Told.{in_same}
 use Rattle.av_stages.specs.Stages.{IsCollectedFrom, StopsBuilding, StopsCollecting}

@@ -1,7 +1,6 @@
-use Rattle.std.proofs.Common.{map, map-id, sym, ap, ◌∙◌, List, rules}
+use Rattle.std.proofs.Common.{map-id, rules}
 use Rattle.std.proofs.lemmas.Iterator.Adapters.{YieldsList-from_vec}
 use Rattle.std.proofs.lemmas.Iterator.Consumers.{YieldsList-end}
-use Rattle.av_load.specs.declared.app_class.AppClass.{AppClass}
 use Rattle.av_stages.proofs.giving.files_and_shapes.Goals as goal
 
 pub returns-clause-files : goal.returns-clause-files
