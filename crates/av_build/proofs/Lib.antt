@@ -1,1 +1,7 @@
-pub mod Outcomes
+mod Lists
+mod Distinct
+mod Complete
+mod Parts
+mod Causes
+mod Built
+mod Outcomes

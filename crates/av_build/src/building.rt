@@ -2,6 +2,8 @@ ghost use Rattle.std.specs.Prelude.{option_map, IfOk, IfErr};
 ghost use Rattle.av_given.specs.Givens.{application_of};
 ghost use Rattle.av_stages.specs.Stages.{IsBuilt, IsCollectedOfSome, IsKnown, OrMemory, StopsBuilding};
 
+use crate::typing::program_of;
+use crate::worlds::{check_supertypes, world_of};
 use av_collected::Collected;
 use av_program::{AcceptStop, Program};
 use av_stages::AppGiven;
@@ -25,6 +27,8 @@ pub fn build(
     ensures built { IfOk result (IsBuilt app.files.items (application_of app.given) found (option_map (λ name. name.now) main.entry)) }
     ensures stopped { IfErr result (OrMemory (StopsBuilding app.files.items (application_of app.given) found (option_map (λ name. name.now) main.entry))) }
 {
-    let _ = (alloc, app, found, main);
-    Err(AcceptStop::Memory)
+    check_supertypes(alloc, &app, &found)?;
+    let dims = found.dims;
+    let world = world_of(alloc, &app, found)?;
+    program_of(alloc, world, app.files.as_slice(), main, dims)
 }

@@ -3,6 +3,8 @@
 #![tactic(auto)]
 
 mod building;
+mod laws;
 mod typing;
+mod worlds;
 
 pub use building::build;

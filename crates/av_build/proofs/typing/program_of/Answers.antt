@@ -1,4 +1,4 @@
-use Rattle.std.proofs.Common.{sym, subst, rules, ◌<◌}
+use Rattle.std.proofs.Common.{rules}
 use Rattle.std.proofs.lemmas.Result.{err_from_is_err_and}
 use Rattle.av_build.proofs.Outcomes.{stopped_at_instructions, stopped_at_main, stopped_at_method}
 use Rattle.av_build.proofs.typing.program_of.Goals as goal
