@@ -1,0 +1,2 @@
+mod Folder
+mod Reading
