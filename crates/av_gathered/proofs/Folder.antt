@@ -93,16 +93,19 @@ nothing_passes : (files : List HostFile) (lib : List ℕ) (quantity : Quantity) 
 nothing_passes files lib quantity (inl long) = false_true long.1
 nothing_passes files lib quantity (inr many) = let lt : most_library_bytes < 0 = many.1 in omega arith
 
-ok_limit : (found : Collected) (quantity : Quantity) → Ok {E = CollectStop} found ≡ Err (collecting.Limit quantity) → ⊥
+abbrev IsLimit : Result Collected CollectStop → Quantity → Type 0
+IsLimit result quantity = result ≡ Err (collecting.Limit quantity)
+
+ok_limit : (found : Collected) (quantity : Quantity) → IsLimit (Ok found) quantity → ⊥
 ok_limit found quantity e = cc
 
-form_limit : (name : List ℕ) (quantity : Quantity) → Err {T = Collected} (collecting.LibraryForm name) ≡ Err (collecting.Limit quantity) → ⊥
+form_limit : (name : List ℕ) (quantity : Quantity) → IsLimit (Err (collecting.LibraryForm name)) quantity → ⊥
 form_limit name quantity e = cc
 
-missing_limit : (name : List ℕ) (quantity : Quantity) → Err {T = Collected} (collecting.Missing name) ≡ Err (collecting.Limit quantity) → ⊥
+missing_limit : (name : List ℕ) (quantity : Quantity) → IsLimit (Err (collecting.Missing name)) quantity → ⊥
 missing_limit name quantity e = cc
 
-names_limit : (name : List ℕ) (quantity : Quantity) → Err {T = Collected} (collecting.NamesApplication name) ≡ Err (collecting.Limit quantity) → ⊥
+names_limit : (name : List ℕ) (quantity : Quantity) → IsLimit (Err (collecting.NamesApplication name)) quantity → ⊥
 names_limit name quantity e = cc
 
 -- ---- the folder

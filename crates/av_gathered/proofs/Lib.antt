@@ -1,2 +1,3 @@
 mod Folder
 mod Reading
+mod Sources
