@@ -11,7 +11,7 @@ use av_closure::collect;
 use av_collected::{CollectStop, Collected};
 use av_given::Given;
 use av_library::laws::told_files_are_the_library;
-use av_library::{Began, HostSource, Lent};
+use av_library::{Began, Borrowed, HostSource, Lent};
 use av_limits::counted_limits_are_limits;
 use av_program::AcceptStop;
 use av_stages::stop_of;
@@ -67,20 +67,20 @@ fn collect_from<H: Host, B: Began>(alloc: Global, host: H, lib: &Name, given: &G
 /// Collects over a host that is lent.
 fn collect_lent<H: Host, B: Began>(
     alloc: Global,
-    host: &mut H,
+    host: Borrowed<'_, H>,
     lib: &Name,
     given: &Given,
 ) -> Result<Collected, AcceptStop>
     requires given { AreGiven (application_of given.now) }
-    requires name { B.name ≡ host.ghost_name }
-    requires calls { B.calls ≡ H.calls host.old }
-    requires failed { B.failed ≡ H.failed host.old }
-    ensures collected { IfOk result (λ found. (app : List ℕ) → InFolders (H.files host.old) app lib.now (λ folders. IsCollectedFrom folders (application_of given.now) found)) }
-    ensures stopped { IfErr result (λ stop. (app : List ℕ) → InFolders (H.files host.old) app lib.now (λ folders. IfStop (StopsCollecting folders (application_of given.now)) stop)) }
+    requires name { B.name ≡ host.host.ghost_name }
+    requires calls { B.calls ≡ H.calls host.host.now }
+    requires failed { B.failed ≡ H.failed host.host.now }
+    ensures collected { IfOk result (λ found. (app : List ℕ) → InFolders (H.files host.entry.host.now) app lib.now (λ folders. IsCollectedFrom folders (application_of given.now) found)) }
+    ensures stopped { IfErr result (λ stop. (app : List ℕ) → InFolders (H.files host.entry.host.now) app lib.now (λ folders. IfStop (StopsCollecting folders (application_of given.now)) stop)) }
     ensures known { IfOk result (IsCollectedOfSome (application_of given.now)) }
-    ensures reads { Reads (IsClassCall (H.files host.old) lib.now (application_of given.now))
-        (record { files = H.files host.old; written = H.written host.old; calls = H.calls host.old; failed = H.failed host.old; read_faults = H.read_faults host.old; write_faults = H.write_faults host.old })
-        (record { files = H.files host.new; written = H.written host.new; calls = H.calls host.new; failed = H.failed host.new; read_faults = H.read_faults host.new; write_faults = H.write_faults host.new }) result }
+    ensures reads { Reads (IsClassCall (H.files host.entry.host.now) lib.now (application_of given.now))
+        (record { files = H.files host.entry.host.now; written = H.written host.entry.host.now; calls = H.calls host.entry.host.now; failed = H.failed host.entry.host.now; read_faults = H.read_faults host.entry.host.now; write_faults = H.write_faults host.entry.host.now })
+        (record { files = H.files host.exit.0.now; written = H.written host.exit.0.now; calls = H.calls host.exit.0.now; failed = H.failed host.exit.0.now; read_faults = H.read_faults host.exit.0.now; write_faults = H.write_faults host.exit.0.now }) result }
 {
     let gathered = collect_from::<Lent<'_, H, B>, B>(alloc, Lent::new(host), lib, given);
     let Gathered { host: _host, found } = gathered;
@@ -107,5 +107,5 @@ pub fn gather<H: Host>(
         (record { files = H.files host.old; written = H.written host.old; calls = H.calls host.old; failed = H.failed host.old; read_faults = H.read_faults host.old; write_faults = H.write_faults host.old })
         (record { files = H.files host.new; written = H.written host.new; calls = H.calls host.new; failed = H.failed host.new; read_faults = H.read_faults host.new; write_faults = H.write_faults host.new }) result }
 {
-    collect_lent::<H, Brand>(alloc, host, lib, given)
+    collect_lent::<H, Brand>(alloc, Borrowed { host }, lib, given)
 }
