@@ -20,8 +20,8 @@ use jv_types::Name;
 use std::alloc::Global;
 use std::marker::Brand;
 
-/// What is collected over a host that is owned, and the host.
-struct Gathered<H: Host> {
+/// What is collected over a host, and the host.
+struct Gathered<H> {
     host: H,
     found: Result<Collected, AcceptStop>,
 }
@@ -65,26 +65,30 @@ fn collect_from<H: Host, B: Began>(alloc: Global, host: H, lib: &Name, given: &G
 }
 
 /// Collects over a host that is lent.
-fn collect_lent<H: Host, B: Began>(
+fn collect_lent<'a, H: Host, B: Began>(
     alloc: Global,
-    host: Borrowed<'_, H>,
+    host: Borrowed<'a, H>,
     lib: &Name,
     given: &Given,
-) -> Result<Collected, AcceptStop>
+) -> Gathered<Borrowed<'a, H>>
     requires given { AreGiven (application_of given.now) }
     requires name { B.name ≡ host.host.ghost_name }
     requires calls { B.calls ≡ H.calls host.host.now }
     requires failed { B.failed ≡ H.failed host.host.now }
-    ensures collected { IfOk result (λ found. (app : List ℕ) → InFolders (H.files host.entry.host.now) app lib.now (λ folders. IsCollectedFrom folders (application_of given.now) found)) }
-    ensures stopped { IfErr result (λ stop. (app : List ℕ) → InFolders (H.files host.entry.host.now) app lib.now (λ folders. IfStop (StopsCollecting folders (application_of given.now)) stop)) }
-    ensures known { IfOk result (IsCollectedOfSome (application_of given.now)) }
+    ensures same_reference { result.host.host.ghost_name ≡ host.entry.host.ghost_name }
+    ensures collected { IfOk result.found (λ found. (app : List ℕ) → InFolders (H.files host.entry.host.now) app lib.now (λ folders. IsCollectedFrom folders (application_of given.now) found)) }
+    ensures stopped { IfErr result.found (λ stop. (app : List ℕ) → InFolders (H.files host.entry.host.now) app lib.now (λ folders. IfStop (StopsCollecting folders (application_of given.now)) stop)) }
+    ensures known { IfOk result.found (IsCollectedOfSome (application_of given.now)) }
     ensures reads { Reads (IsClassCall (H.files host.entry.host.now) lib.now (application_of given.now))
         (record { files = H.files host.entry.host.now; written = H.written host.entry.host.now; calls = H.calls host.entry.host.now; failed = H.failed host.entry.host.now; read_faults = H.read_faults host.entry.host.now; write_faults = H.write_faults host.entry.host.now })
-        (record { files = H.files host.exit.0.now; written = H.written host.exit.0.now; calls = H.calls host.exit.0.now; failed = H.failed host.exit.0.now; read_faults = H.read_faults host.exit.0.now; write_faults = H.write_faults host.exit.0.now }) result }
+        (record { files = H.files result.host.host.now; written = H.written result.host.host.now; calls = H.calls result.host.host.now; failed = H.failed result.host.host.now; read_faults = H.read_faults result.host.host.now; write_faults = H.write_faults result.host.host.now }) result.found }
 {
     let gathered = collect_from::<Lent<'_, H, B>, B>(alloc, Lent::new(host), lib, given);
-    let Gathered { host: _host, found } = gathered;
-    found
+    let Gathered { host, found } = gathered;
+    Gathered {
+        host: host.into_borrowed(),
+        found,
+    }
 }
 
 /// The classes of the library under a root that an application meets. Only the files of those are read, each once.
@@ -107,5 +111,7 @@ pub fn gather<H: Host>(
         (record { files = H.files host.old; written = H.written host.old; calls = H.calls host.old; failed = H.failed host.old; read_faults = H.read_faults host.old; write_faults = H.write_faults host.old })
         (record { files = H.files host.new; written = H.written host.new; calls = H.calls host.new; failed = H.failed host.new; read_faults = H.read_faults host.new; write_faults = H.write_faults host.new }) result }
 {
-    collect_lent::<H, Brand>(alloc, Borrowed { host }, lib, given)
+    let gathered = collect_lent::<H, Brand>(alloc, Borrowed { host }, lib, given);
+    let Gathered { host: _host, found } = gathered;
+    found
 }

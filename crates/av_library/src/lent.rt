@@ -54,6 +54,15 @@ impl<'a, H: Host, B: Began> Lent<'a, H, B> {
             of: PhantomData,
         }
     }
+
+    /// The borrow.
+    pub fn into_borrowed(self) -> Borrowed<'a, H>
+        ensures same_reference { result.host.ghost_name ≡ self.entry.host.ghost_name }
+        ensures same_host { result.host.now ≡ self.entry.host.now }
+    {
+        let Lent { host, of: _of } = self;
+        Borrowed { host }
+    }
 }
 
 impl<H: Host, B: Began> Host for Lent<'_, H, B> {
