@@ -27,7 +27,7 @@ impl Began for Brand {
     ghost failed = { None };
 }
 
-/// A borrow of a host, as a value. Such a value is handed on as it is, where a call lends a plain reference anew.
+/// A borrow of a host, given back.
 #[derive(Drop)]
 pub struct Borrowed<'a, H: Host> {
     pub host: &'a mut H,
@@ -43,12 +43,11 @@ pub struct Lent<'a, H: Host, B: Began> {
 
 impl<'a, H: Host, B: Began> Lent<'a, H, B> {
     /// The host behind the borrow.
-    pub fn new(borrowed: Borrowed<'a, H>) -> Lent<'a, H, B>
-        requires { B.name ≡ borrowed.host.ghost_name }
-        ensures same_reference { result.host.ghost_name ≡ borrowed.entry.host.ghost_name }
-        ensures same_host { result.host.now ≡ borrowed.entry.host.now }
+    pub fn new(host: &'a mut H) -> Lent<'a, H, B>
+        requires { B.name ≡ host.ghost_name }
+        ensures same_reference { result.host.ghost_name ≡ host.entry.ghost_name }
+        ensures same_host { result.host.now ≡ host.old }
     {
-        let Borrowed { host } = borrowed;
         Lent {
             host,
             of: PhantomData,
