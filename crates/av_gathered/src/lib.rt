@@ -2,5 +2,6 @@
 #![tactic(auto)]
 
 mod gathering;
+mod noted;
 
 pub use gathering::gather;

@@ -27,6 +27,12 @@ impl Began for Brand {
     ghost failed = { None };
 }
 
+/// A borrow of a host, given back.
+#[derive(Drop)]
+pub struct Borrowed<'a, H: Host> {
+    pub host: &'a mut H,
+}
+
 /// A host that is lent. Each value of the type holds the same borrow.
 #[derive(Drop)]
 pub struct Lent<'a, H: Host, B: Began> {
@@ -46,6 +52,15 @@ impl<'a, H: Host, B: Began> Lent<'a, H, B> {
             host,
             of: PhantomData,
         }
+    }
+
+    /// The borrow.
+    pub fn into_borrowed(self) -> Borrowed<'a, H>
+        ensures same_reference { result.host.ghost_name ≡ self.entry.host.ghost_name }
+        ensures same_host { result.host.now ≡ self.entry.host.now }
+    {
+        let Lent { host, of: _of } = self;
+        Borrowed { host }
     }
 }
 

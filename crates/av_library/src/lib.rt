@@ -21,5 +21,5 @@ mod worth;
 
 pub use counted::Counted;
 pub use history::Asked;
-pub use lent::{Began, Lent};
+pub use lent::{Began, Borrowed, Lent};
 pub use source::HostSource;

@@ -1,0 +1,3 @@
+mod Folder
+mod Reading
+mod Sources
