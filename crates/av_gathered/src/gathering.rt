@@ -26,20 +26,6 @@ struct Gathered<H> {
     found: Result<Collected, AcceptStop>,
 }
 
-/// What is collected over a host that is lent, and the borrow.
-#[derive(Drop)]
-struct Returned<'a, H: Host> {
-    host: Borrowed<'a, H>,
-    found: Result<Collected, AcceptStop>,
-}
-
-/// The borrow ends with the host as it is.
-fn end<H: Host>(borrowed: Borrowed<'_, H>)
-    ensures { borrowed.exit.0.now ≡ borrowed.entry.host.now }
-{
-    let _ = borrowed;
-}
-
 /// What acceptance answers to an answer of collection, where this is the file whose read failed.
 fn answered(
     found: Result<Collected, CollectStop>,
@@ -78,31 +64,31 @@ fn collect_from<H: Host, B: Began>(alloc: Global, host: H, lib: &Name, given: &G
     Gathered { host, found }
 }
 
-/// Collects over a host that is lent.
+/// Collects over a host that is lent, and gives the borrow back. The answer is left behind `answer`.
 fn collect_lent<'a, H: Host, B: Began>(
     alloc: Global,
     host: &'a mut H,
     lib: &Name,
     given: &Given,
-) -> Returned<'a, H>
+    answer: &mut Result<Collected, AcceptStop>,
+) -> &'a mut H
     requires given { AreGiven (application_of given.now) }
     requires name { B.name ≡ host.ghost_name }
     requires calls { B.calls ≡ H.calls host.old }
     requires failed { B.failed ≡ H.failed host.old }
-    ensures same_reference { result.host.host.ghost_name ≡ host.entry.ghost_name }
-    ensures collected { IfOk result.found (λ found. (app : List ℕ) → InFolders (H.files host.old) app lib.now (λ folders. IsCollectedFrom folders (application_of given.now) found)) }
-    ensures stopped { IfErr result.found (λ stop. (app : List ℕ) → InFolders (H.files host.old) app lib.now (λ folders. IfStop (StopsCollecting folders (application_of given.now)) stop)) }
-    ensures known { IfOk result.found (IsCollectedOfSome (application_of given.now)) }
+    ensures same_reference { result.ghost_name ≡ host.entry.ghost_name }
+    ensures collected { IfOk answer.new (λ found. (app : List ℕ) → InFolders (H.files host.old) app lib.now (λ folders. IsCollectedFrom folders (application_of given.now) found)) }
+    ensures stopped { IfErr answer.new (λ stop. (app : List ℕ) → InFolders (H.files host.old) app lib.now (λ folders. IfStop (StopsCollecting folders (application_of given.now)) stop)) }
+    ensures known { IfOk answer.new (IsCollectedOfSome (application_of given.now)) }
     ensures reads { Reads (IsClassCall (H.files host.old) lib.now (application_of given.now))
         (record { files = H.files host.old; written = H.written host.old; calls = H.calls host.old; failed = H.failed host.old; read_faults = H.read_faults host.old; write_faults = H.write_faults host.old })
-        (record { files = H.files result.host.host.now; written = H.written result.host.host.now; calls = H.calls result.host.host.now; failed = H.failed result.host.host.now; read_faults = H.read_faults result.host.host.now; write_faults = H.write_faults result.host.host.now }) result.found }
+        (record { files = H.files result.now; written = H.written result.now; calls = H.calls result.now; failed = H.failed result.now; read_faults = H.read_faults result.now; write_faults = H.write_faults result.now }) answer.new }
 {
     let gathered = collect_from::<Lent<'_, H, B>, B>(alloc, Lent::new(host), lib, given);
     let Gathered { host, found } = gathered;
-    Returned {
-        host: host.into_borrowed(),
-        found,
-    }
+    *answer = found;
+    let Borrowed { host } = host.into_borrowed();
+    host
 }
 
 /// The classes of the library under a root that an application meets. Only the files of those are read, each once.
@@ -125,8 +111,7 @@ pub fn gather<H: Host>(
         (record { files = H.files host.old; written = H.written host.old; calls = H.calls host.old; failed = H.failed host.old; read_faults = H.read_faults host.old; write_faults = H.write_faults host.old })
         (record { files = H.files host.new; written = H.written host.new; calls = H.calls host.new; failed = H.failed host.new; read_faults = H.read_faults host.new; write_faults = H.write_faults host.new }) result }
 {
-    let gathered = collect_lent::<H, Brand>(alloc, host, lib, given);
-    let Returned { host, found } = gathered;
-    end(host);
-    found
+    let mut answer = Err(AcceptStop::Memory);
+    collect_lent::<H, Brand>(alloc, host, lib, given, &mut answer);
+    answer
 }
