@@ -7,21 +7,32 @@
 # processor, less what reading takes; those of the JVM are what its one thread waited, without the first of its
 # rounds.
 #
+# Then the command: `averroes verify` on the same folders, on 20,000 small classes and on one class of 16 MB
+# (bench/many_classes.py), and beside it on the same files `java -Xverify:all`, which links the classes once, and, where
+# Debian's libasm-java is installed, ASM's checks (bench/Checking.java). Each is a whole process: the best of three runs,
+# in milliseconds that passed, and its peak memory.
+#
 # verify.sh CLASSES LIBRARY [ROUNDS]
 set -eu
 top=$(cd "$(dirname "$0")/.." && pwd)
 work=$(mktemp -d)
 trap 'rm -rf "$work"' EXIT
 "$top/bench/build.sh" measure sample
+"$top/bench/build.sh" averroes calls
+asm=$(printf '%s:' /usr/share/java/asm.jar /usr/share/java/asm-{tree,analysis,util}.jar)
 if command -v javac >/dev/null 2>&1; then
   javac -d "$work" "$top/bench/Linking.java"
+  if [ -f /usr/share/java/asm-util.jar ]; then
+    javac -d "$work" -cp "$asm" "$top/bench/Checking.java"
+  fi
 fi
-python3 - "$top" "$work" "$1" "$2" "${3:-20}" <<'PY'
-import glob, os, subprocess, sys
+python3 - "$top" "$work" "$1" "$2" "${3:-20}" "$asm" <<'PY'
+import glob, os, subprocess, sys, time
 
-top, work, classes, library, rounds = sys.argv[1:5] + [int(sys.argv[5])]
+top, work, classes, library, rounds, asm = sys.argv[1:5] + [int(sys.argv[5]), sys.argv[6]]
 program = top + "/crates/measure/out/measure"
 has_jvm = os.path.exists(work + "/Linking.class")
+has_asm = os.path.exists(work + "/Checking.class")
 
 
 def run(words):
@@ -65,11 +76,11 @@ def row(what, times, folder, library):
     print(line if has_jvm else line + ", no JDK", flush=True)
 
 
-for folder in ["cup", "jasmin", "jlex", "jzlib", "tagsoup"] + sorted(
+folders = [folder for folder in ["cup", "jasmin", "jlex", "jzlib", "tagsoup"] + sorted(
     os.path.relpath(path, classes) for path in glob.glob(classes + "/programs/*/")
-):
-    if os.path.isdir(os.path.join(classes, folder)):
-        row(folder, rounds, os.path.join(classes, folder), library)
+) if os.path.isdir(os.path.join(classes, folder))]
+for folder in folders:
+    row(folder, rounds, os.path.join(classes, folder), library)
 
 for family, most, times in (("long", 60000, 5), ("handlers", 5000, 5), ("covered", 1000, 2), ("maps", 10000, 5)):
     for size in (most // 4, most // 2, most):
@@ -77,4 +88,34 @@ for family, most, times in (("long", 60000, 5), ("handlers", 5000, 5), ("covered
         os.mkdir(folder)
         subprocess.run(["python3", top + "/bench/make_class.py", family, str(size), folder + "/Big.class"], check=True)
         row("%s n=%d" % (family, size), times, folder, top + "/crates/measure/data/verify/library")
+
+
+def passed(words):
+    # the best of three whole processes: milliseconds that passed, and peak bytes
+    def once():
+        start = time.monotonic()
+        child = subprocess.Popen(words, stdout=subprocess.DEVNULL, stderr=subprocess.DEVNULL)
+        _, status, used = os.wait4(child.pid, 0)
+        assert status == 0, words
+        return (time.monotonic() - start) * 1e3, used.ru_maxrss * 1024
+
+    return min(once() for _ in range(3))
+
+
+def command_row(what, folder, library):
+    runs = [("averroes", [top + "/crates/averroes/out/averroes", "verify", "--app", folder, "--lib", library])]
+    if has_jvm:
+        runs.append(("JVM", ["java", "-Xverify:all", "-cp", work, "Linking", "1", folder]))
+    if has_asm:
+        runs.append(("ASM", ["java", "-cp", work + ":" + asm, "Checking", folder]))
+    parts = ["%s %.0f ms, %.1f MB" % (name, span, peak / 1e6) for name, (span, peak) in ((n, passed(w)) for n, w in runs)]
+    print("command, %s: %s" % (what, "; ".join(parts)), flush=True)
+
+
+for folder in folders:
+    command_row(folder, os.path.join(classes, folder), library)
+for family in ("many", "large"):
+    folder = "%s/%s" % (work, family)
+    subprocess.run(["python3", top + "/bench/many_classes.py", family, folder], check=True)
+    command_row(family, folder + "/app", folder + "/lib")
 PY

@@ -7,7 +7,7 @@ use Rattle.jv_host.specs.declared.host.HostFile.{HostFile}
 use Rattle.jv_host.specs.Files.{bytes_of}
 use Rattle.calls_form.specs.ObjectForm.{file_limit}
 use Rattle.av_cli.specs.declared.calls.answer.Answer.{Answer}
-use Rattle.av_cli.specs.declared.calls.answer.Answer.TheVariants.{Printed, Misused, Unreadable, NoFile, TooLarge, NotClass, OutsideForm, NoMain, Unwritable, OutOfMemory}
+use Rattle.av_cli.specs.declared.calls.answer.Answer.TheVariants.{Printed, Unreadable, NoFile, TooLarge, NotClass, OutsideForm, NoMain, Unwritable, OutOfMemory}
 use Rattle.av_outcome.specs.Handing.{SinkState}
 use Rattle.av_cli.specs.Calls.Answers.{file_name, file_most}
 use Rattle.av_cli.specs.Calls.FileKinds.{IsTooLarge}
@@ -47,7 +47,6 @@ Prints-whole name bytes old new Unwritable p =
 Prints-whole name bytes old new OutOfMemory (inl same) = inl same
 Prints-whole name bytes old new OutOfMemory (inr p) =
     subst (λ (b : List ℕ). Prints name b old new OutOfMemory) (take-whole bytes p.1.is_class.short) (inr p)
-Prints-whole name bytes old new Misused p = absurd p
 Prints-whole name bytes old new Unreadable p = absurd p
 Prints-whole name bytes old new NoFile p = absurd p
 
@@ -81,7 +80,6 @@ from_bytes o root name OutsideForm c = c
 from_bytes o root name NoMain c = c
 from_bytes o root name Unwritable c = c
 from_bytes o root name OutOfMemory c = inr c
-from_bytes o root name Misused c = absurd c.2
 from_bytes o root name Unreadable c = absurd c.2
 from_bytes o root name NoFile c = absurd c.2
 

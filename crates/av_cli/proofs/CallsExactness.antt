@@ -6,10 +6,10 @@ use Rattle.jv_host.specs.Files.{bytes_of}
 use Rattle.calls_form.specs.declared.object_class.ObjectClass.{ObjectClass}
 use Rattle.calls_form.specs.ObjectForm.{IsObjectClass}
 use Rattle.av_cli.specs.declared.calls.answer.Answer.{Answer}
-use Rattle.av_cli.specs.declared.calls.answer.Answer.TheVariants.{Printed, Misused, Unreadable, NoFile, TooLarge, NotClass, OutsideForm, NoMain, Unwritable, OutOfMemory}
+use Rattle.av_cli.specs.declared.calls.answer.Answer.TheVariants.{Printed, Unreadable, NoFile, TooLarge, NotClass, OutsideForm, NoMain, Unwritable, OutOfMemory}
 use Rattle.av_cli.specs.Calls.Answers.{file_name, request}
 use Rattle.av_cli.specs.Calls.FileKinds.{IsTooLarge, IsClassFile, IsInForm, IsNoClass, IsOutsideForm, DeclaresMain, LacksMain}
-use Rattle.av_cli.specs.Calls.Ending.{Concludes, HasCause, IsDue, AreMisused}
+use Rattle.av_cli.specs.Calls.Ending.{Concludes, IsDue}
 use Rattle.av_cli.specs.Outside.{Outside, IsFaultless}
 
 -- what an answer says of the bytes of the file
@@ -19,7 +19,6 @@ Judges name bytes NotClass = IsNoClass bytes
 Judges name bytes OutsideForm = IsOutsideForm name bytes
 Judges name bytes NoMain = LacksMain name bytes
 Judges name bytes Printed = (class : ObjectClass) × IsClassFile bytes × IsObjectClass name bytes class × DeclaresMain class
-Judges name bytes Misused = ⊥
 Judges name bytes Unreadable = ⊥
 Judges name bytes NoFile = ⊥
 Judges name bytes Unwritable = ⊥
@@ -56,12 +55,10 @@ one_judgement name bytes Printed NotClass p q = absurd (q.1 p.1)
 one_judgement name bytes Printed OutsideForm p q = absurd (q.2 (p.0, p.2))
 one_judgement name bytes Printed NoMain p q = absurd (q.2 p.0 p.2 p.3)
 one_judgement name bytes Printed Printed p q = refl
-one_judgement name bytes a Misused p q = absurd q
 one_judgement name bytes a Unreadable p q = absurd q
 one_judgement name bytes a NoFile p q = absurd q
 one_judgement name bytes a Unwritable p q = absurd q
 one_judgement name bytes a OutOfMemory p q = absurd q
-one_judgement name bytes Misused b p q = absurd p
 one_judgement name bytes Unreadable b p q = absurd p
 one_judgement name bytes NoFile b p q = absurd p
 one_judgement name bytes Unwritable b p q = absurd p
@@ -107,7 +104,6 @@ concluded o told root name Unwritable e f c = absurd (f.writes c.2.3)
 concluded o told root name OutOfMemory e f c = inr refl
 concluded o told root name Unreadable e f c = absurd (f.reads c.0)
 concluded o told root name NoFile e f c = inl (of_none name _ (told_fact o.files told (λ t. bytes_of t root (file_name name) ≡ None) e c.0))
-concluded o told root name Misused e f c = absurd c
 
 -- the words name one root and one class
 same_root : (root name root' name' : List ℕ) → request root name ≡ request root' name' → root ≡ root'
@@ -125,7 +121,6 @@ at_words words told root name root' name' due p q v =
 
 due_verdict : (words : List (List ℕ)) (told : List HostFile) (root name : List ℕ) (due : Answer) → words ≡ request root name → IsDue words told due → Verdict told root name due
 due_verdict words told root name Printed p d = at_words words told root name d.0 d.1 Printed p d.4 (of_bytes d.1 d.2 _ Printed d.5 (d.3, d.6, d.7, d.8))
-due_verdict words told root name Misused p d = absurd (d root name p)
 due_verdict words told root name NoFile p d = at_words words told root name d.0 d.1 NoFile p d.2 (of_none d.1 _ d.3)
 due_verdict words told root name TooLarge p d = at_words words told root name d.0 d.1 TooLarge p d.3 (of_bytes d.1 d.2 _ TooLarge d.4 d.5)
 due_verdict words told root name NotClass p d = at_words words told root name d.0 d.1 NotClass p d.3 (of_bytes d.1 d.2 _ NotClass d.4 d.5)
@@ -135,18 +130,6 @@ due_verdict words told root name Unreadable p d = absurd d
 due_verdict words told root name Unwritable p d = absurd d
 due_verdict words told root name OutOfMemory p d = absurd d
 
-due_misused : (words : List (List ℕ)) (told : List HostFile) (due : Answer) → AreMisused words → IsDue words told due → Misused ≡ due
-due_misused words told Printed m d = absurd (m d.0 d.1 d.4)
-due_misused words told Misused m d = refl
-due_misused words told NoFile m d = absurd (m d.0 d.1 d.2)
-due_misused words told TooLarge m d = absurd (m d.0 d.1 d.3)
-due_misused words told NotClass m d = absurd (m d.0 d.1 d.3)
-due_misused words told OutsideForm m d = absurd (m d.0 d.1 d.3)
-due_misused words told NoMain m d = absurd (m d.0 d.1 d.3)
-due_misused words told Unreadable m d = absurd d
-due_misused words told Unwritable m d = absurd d
-due_misused words told OutOfMemory m d = absurd d
-
 -- an answer that was concluded is the one that is due
 pub exact_request : (words : List (List ℕ)) (o : Outside) (root name : List ℕ) (answer : Answer) → words ≡ request root name → Concludes o root name answer
     → (told : List HostFile) → o.files ≡ Some told → (due : Answer) → IsDue words told due → IsFaultless o → (answer ≡ due) ⊎ (answer ≡ OutOfMemory)
@@ -155,21 +138,3 @@ exact_request words o root name answer p c told e due d f =
       | inl v ↦ inl (one_of_content name _ answer due v (due_verdict words told root name due p d))
       | inr memory ↦ inr memory
     ]
-
--- words that are no command have one answer
-pub exact_misused : (words : List (List ℕ)) (o : Outside) → AreMisused words
-    → (told : List HostFile) → o.files ≡ Some told → (due : Answer) → IsDue words told due → IsFaultless o → (Misused ≡ due) ⊎ (Misused ≡ OutOfMemory)
-exact_misused words o m told e due d f = inl (due_misused words told due m d)
-
--- an answer about a root and a class has its cause
-pub has_cause : (words : List (List ℕ)) (o : Outside) (root name : List ℕ) (answer : Answer) → words ≡ request root name → Concludes o root name answer → HasCause words o answer
-has_cause words o root name Printed p c = (root, name, p, c)
-has_cause words o root name TooLarge p c = (root, name, p, c)
-has_cause words o root name NotClass p c = (root, name, p, c)
-has_cause words o root name OutsideForm p c = (root, name, p, c)
-has_cause words o root name NoMain p c = (root, name, p, c)
-has_cause words o root name Unwritable p c = (root, name, p, c)
-has_cause words o root name OutOfMemory p c = (root, name, p, c)
-has_cause words o root name Unreadable p c = (root, name, p, c)
-has_cause words o root name NoFile p c = (root, name, p, c)
-has_cause words o root name Misused p c = absurd c

@@ -1,6 +1,5 @@
 pub mod CallsConcluding
 pub mod CallsExactness
-pub mod CallsRequests
 pub mod CallsMains
 pub mod CallsGraphs
 pub mod CallsOutcomes

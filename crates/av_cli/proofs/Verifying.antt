@@ -1,5 +1,5 @@
 -- What an acceptor answers, and what is printed then, make an end of the command.
-use Rattle.std.proofs.Common.{◌≡◌, ℕ, ◌⊎◌, inl, inr, List, Option, Some, None, Result, Ok, Err, refl, sym, ap, ◌∙◌, subst}
+use Rattle.std.proofs.Common.{◌≡◌, ℕ, inl, inr, List, Option, Some, None, Result, Err, refl, sym, ap, ◌∙◌, subst}
 use Rattle.std.specs.Prelude.{IfSome}
 use Rattle.jv_host.specs.declared.host.HostFile.{HostFile}
 use Rattle.jv_host.specs.declared.host.HostCall.{HostCall}
@@ -15,7 +15,7 @@ use Rattle.av_outcome.specs.declared.outcome.Outcome.TheVariants.{Done, Refused,
 use Rattle.av_outcome.specs.Handing.{SinkState}
 use Rattle.av_outcome.specs.Outcomes.{outcome_of_stop}
 use Rattle.av_cli.specs.Outside.{Outside, NothingPrinted}
-use Rattle.av_cli.specs.Verifying.{Prints, IsVerified, IsDue, Settles, VerifyEnds}
+use Rattle.av_cli.specs.Verifying.{Prints, IsDue, Settles, VerifyEnds}
 
 -- a fact of the files, where they are told
 at_told : (files : Option (List HostFile)) (told : List HostFile) (P : List HostFile → Type 0) → files ≡ Some told → IfSome files P → P told

@@ -11,7 +11,7 @@ use Rattle.av_outcome.specs.declared.status.Status.{Status}
 use Rattle.av_outcome.specs.Handing.{SinkState, Says}
 use Rattle.av_outcome.specs.Outcomes.{outcome_line, outcome_status}
 use Rattle.av_cli.specs.declared.calls.answer.Answer.{Answer}
-use Rattle.av_cli.specs.declared.calls.answer.Answer.TheVariants.{Printed, Misused, Unreadable, NoFile, TooLarge, NotClass, OutsideForm, NoMain, Unwritable, OutOfMemory}
+use Rattle.av_cli.specs.declared.calls.answer.Answer.TheVariants.{Printed, Unreadable, NoFile, TooLarge, NotClass, OutsideForm, NoMain, Unwritable, OutOfMemory}
 use Rattle.av_cli.specs.Outside.{Outside, NothingPrinted, IsFaultless}
 use Rattle.av_cli.specs.Calls.Answers.{file_name}
 use Rattle.av_cli.specs.Calls.Ending.{Concludes, IsDue}
@@ -19,7 +19,6 @@ use Rattle.av_cli.specs.Calls.Ending.{Concludes, IsDue}
 -- what an answer of `calls` about the class of this name comes to
 abbrev pub outcome_of : List ℕ → Answer → Outcome
 outcome_of name Printed = Done
-outcome_of name Misused = Usage
 outcome_of name Unreadable = ReadFault (file_name name)
 outcome_of name NoFile = Refused (record { rule = rule.NoMain; place = place.Class name })
 outcome_of name TooLarge = Limit FileBytes 16777216

@@ -9,4 +9,4 @@ mod verify;
 pub use av_outcome::Status;
 pub use calls::{Answer, GraphError, call_graph};
 pub use commands::run_with;
-pub use top::{run, stop_for_memory};
+pub use top::stop_for_memory;

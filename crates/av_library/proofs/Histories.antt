@@ -1,21 +1,15 @@
 -- How the history of calls grows by one call.
-use Rattle.std.proofs.Common.{◌≡◌, ℕ, Bool, true, false, ◌&&◌, cond, eqb, List, [], ◌∷◌, ◌++◌, map, filter, Option, Some, None, option_map, is_ok, IfSome, Contains, Result, Ok, Err, bytes_eq, if◌then◌else◌, refl, sym, ap, subst, ◌∙◌, append_assoc, append-nil}
-use Rattle.std.proofs.lemmas.Bool.{and_from, and_parts, eqb-true}
+use Rattle.std.proofs.Common.{◌≡◌, ℕ, Bool, true, false, List, [], ◌∷◌, ◌++◌, map, filter, Option, Some, None, option_map, is_ok, IfSome, Contains, Result, Ok, Err, if◌then◌else◌, refl, sym, ap, subst, ◌∙◌, append_assoc, append-nil}
 use Rattle.std.proofs.lemmas.List.{map-append}
 use Rattle.std.proofs.lemmas.List.Elements.{filter-append}
-use Rattle.std.proofs.lemmas.Slice.Eq.{bytes_eq-Decides}
 use Rattle.jv_host.specs.declared.host.HostCall.{HostCall}
-use Rattle.jv_host.specs.declared.host.HostCall.TheVariants as calls
 use Rattle.jv_host.specs.declared.host.HostFault.{HostFault}
 use Rattle.jv_host.specs.declared.host.HostFault.TheVariants as faults
 use Rattle.jv_host.specs.HostAnswer.{OnHostFailed, UnlessHostFailed}
 use Rattle.av_collected.specs.declared.found.ShapeFound.{ShapeFound}
 use Rattle.av_collected.specs.Sources.{answered_after}
-use Rattle.av_program.specs.Reads.{file_of, most_read}
 use Rattle.av_library.specs.declared.history.Asked.{Asked}
-use Rattle.av_library.specs.History.{IsReadOf, answered_in, asked_in, calls_with, class_read, failed_in, failed_with, is_answered, is_failed, is_read, last_failed, later_or, read_of, reads_in}
-use Rattle.av_library.specs.Told.{class_of}
-use Rattle.av_library.proofs.Folder.{class_again}
+use Rattle.av_library.specs.History.{IsReadOf, answered_in, asked_in, calls_with, failed_after, failed_in, failed_with, is_answered, is_failed, is_read, later_or, read_of, read_or, reads_in}
 use Rattle.av_library.proofs.Members.{mapped_from, mapped_to, picked_from}
 
 abbrev Calls : Type 0
@@ -91,62 +85,44 @@ failed_more (call ∷ history) name asked =
     ap (λ (o : Option (List ℕ)). later_or o (if is_failed call.1 then Some call.0 else None)) (failed_more history name asked)
     ∙ later_twice (is_failed asked) name (failed_in history) (if is_failed call.1 then Some call.0 else None)
 
-reads_class : (root name : List ℕ) → class_read root (Some (read_of root name)) ≡ Some name
-reads_class root name =
-    let same_root : bytes_eq root root ≡ true = (bytes_eq-Decides root root).1 refl in
-    let same_file : bytes_eq (file_of name) (file_of (class_of (file_of name))) ≡ true = (bytes_eq-Decides (file_of name) (file_of (class_of (file_of name)))).1 (sym (ap file_of (class_again name))) in
-    ap (λ (t : Bool). if t then Some (class_of (file_of name)) else None)
-    (and_from (bytes_eq root root) (bytes_eq (file_of name) (file_of (class_of (file_of name))) && eqb most_read most_read) same_root (and_from (bytes_eq (file_of name) (file_of (class_of (file_of name)))) (eqb most_read most_read) same_file refl))
-    ∙ ap Some (class_again name)
+-- the last call that failed, as a host tells it, goes on with the one that is noted
+faults_by : (began : Option (Option HostCall)) (root name : List ℕ) (last : Option (List ℕ)) (t : Bool)
+    → failed_with t (read_of root name) (option_map (λ before. read_or root last before) began) ≡ option_map (λ before. read_or root (if t then Some name else last) before) began
+faults_by None root name last true = refl
+faults_by None root name last false = refl
+faults_by (Some before) root name last true = refl
+faults_by (Some before) root name last false = refl
 
--- the last call that failed is the read of the name at which the source failed
-read_by : (root from file : List ℕ) (most : ℕ) (name : List ℕ) (t : Bool) → (bytes_eq from root && (bytes_eq file (file_of (class_of file)) && eqb most most_read)) ≡ t → (if t then Some (class_of file) else None) ≡ Some name
-    → calls.ReadFile from file most ≡ read_of root name
-read_by root from file most name true is e =
-    let parts = and_parts (bytes_eq from root) (bytes_eq file (file_of (class_of file)) && eqb most most_read) is in
-    let rest = and_parts (bytes_eq file (file_of (class_of file))) (eqb most most_read) parts.1 in
-    let same_root : from ≡ root = (bytes_eq-Decides from root).0 parts.0 in
-    let same_name : class_of file ≡ name = cc in
-    let same_file : file ≡ file_of name = (bytes_eq-Decides file (file_of (class_of file))).0 rest.0 ∙ ap file_of same_name in
-    let same_most : most ≡ most_read = eqb-true most most_read rest.1 in
-    λ i. calls.ReadFile (same_root i) (same_file i) (same_most i)
-read_by root from file most name false is e = absurd cc
+pub faults_more : (began now later : Option (Option HostCall)) (root name : List ℕ) (history : Calls) (asked : Asked) → now ≡ failed_after root history began
+    → later ≡ failed_with (is_failed asked) (read_of root name) now → later ≡ failed_after root (history ++ (name, asked) ∷ []) began
+faults_more began now later root name history asked e is =
+    is ∙ ap (failed_with (is_failed asked) (read_of root name)) e ∙ faults_by began root name (failed_in history) (is_failed asked)
+    ∙ ap (λ (o : Option (List ℕ)). option_map (λ before. read_or root o before) began) (sym (failed_more history name asked))
 
-nothing_read : (name : List ℕ) → None ≡ Some name → ⊥
-nothing_read name e = cc
+pub faults_none : (told : Option (Option HostCall)) (root : List ℕ) → told ≡ failed_after root [] told
+faults_none None root = refl
+faults_none (Some before) root = refl
 
-pub failed_is : (told : Option (Option HostCall)) (root : List ℕ) (history : Calls) (name : List ℕ) → last_failed root told history ≡ Some name → IfSome told (λ last. last ≡ Some (read_of root name))
-failed_is None root history name e = tt
-failed_is (Some None) root history name e = absurd (nothing_read name e)
-failed_is (Some (Some (calls.ReadFile from file most))) root history name e =
-    ap Some (read_by root from file most name (bytes_eq from root && (bytes_eq file (file_of (class_of file)) && eqb most most_read)) refl e)
-failed_is (Some (Some (calls.ListRoot from most))) root history name e = absurd (nothing_read name e)
-failed_is (Some (Some (calls.WriteFile from file))) root history name e = absurd (nothing_read name e)
+-- the last call that failed is the read of the name at which the source failed, or the one of before
+failed_by : (began : Option (Option HostCall)) (root name : List ℕ) → IfSome (option_map (λ before. read_or root (Some name) before) began) (λ told. told ≡ Some (read_of root name))
+failed_by None root name = tt
+failed_by (Some before) root name = refl
 
-last_more : (told : Option (Option HostCall)) (root name : List ℕ) (history : Calls) (asked : Asked) → is_failed asked ≡ true
-    → last_failed root (failed_with true (read_of root name) told) (history ++ (name, asked) ∷ []) ≡ Some name
-last_more None root name history asked e = failed_more history name asked ∙ ap (λ (t : Bool). if t then Some name else failed_in history) e
-last_more (Some old) root name history asked e = reads_class root name
+pub failed_is : (began now : Option (Option HostCall)) (root : List ℕ) (history : Calls) → now ≡ failed_after root history began
+    → (name : List ℕ) → failed_in history ≡ Some name → IfSome now (λ told. told ≡ Some (read_of root name))
+failed_is began now root history e name is =
+    subst (λ (o : Option (Option HostCall)). IfSome o (λ told. told ≡ Some (read_of root name)))
+    (sym (e ∙ ap (λ (o : Option (List ℕ)). option_map (λ before. read_or root o before) began) is)) (failed_by began root name)
 
-last_same : (told : Option (Option HostCall)) (root name : List ℕ) (history : Calls) (asked : Asked) → is_failed asked ≡ false
-    → last_failed root told (history ++ (name, asked) ∷ []) ≡ last_failed root told history
-last_same None root name history asked e = failed_more history name asked ∙ ap (λ (t : Bool). if t then Some name else failed_in history) e
-last_same (Some old) root name history asked e = refl
+pub failed_not : (began now : Option (Option HostCall)) (root : List ℕ) (history : Calls) → now ≡ failed_after root history began → failed_in history ≡ None → now ≡ began
+failed_not began now root history e is = e ∙ ap (λ (o : Option (List ℕ)). option_map (λ before. read_or root o before) began) is ∙ sym (faults_none began root)
 
-pub failed_now : (result : Result ShapeFound HostFault) (told later : Option (Option HostCall)) (root name : List ℕ) (history : Calls) (asked : Asked) → OnHostFailed result (is_failed asked ≡ true)
-    → later ≡ failed_with (is_failed asked) (read_of root name) told → OnHostFailed result (last_failed root later (history ++ (name, asked) ∷ []) ≡ Some name)
-failed_now (Ok found) told later root name history asked h is = tt
-failed_now (Err faults.Failed) told later root name history asked h is =
-    ap (λ (o : Option (Option HostCall)). last_failed root o (history ++ (name, asked) ∷ [])) (is ∙ ap (λ (t : Bool). failed_with t (read_of root name) told) h) ∙ last_more told root name history asked h
-failed_now (Err faults.Memory) told later root name history asked h is = tt
+pub failed_now : (result : Result ShapeFound HostFault) (name : List ℕ) (history : Calls) (asked : Asked) → OnHostFailed result (is_failed asked ≡ true) → OnHostFailed result (failed_in (history ++ (name, asked) ∷ []) ≡ Some name)
+failed_now (Ok found) name history asked h = tt
+failed_now (Err faults.Failed) name history asked h = failed_more history name asked ∙ ap (λ (t : Bool). if t then Some name else failed_in history) h
+failed_now (Err faults.Memory) name history asked h = tt
 
-kept_by : (told later : Option (Option HostCall)) (root name : List ℕ) (history : Calls) (asked : Asked) → is_failed asked ≡ false
-    → later ≡ failed_with (is_failed asked) (read_of root name) told → last_failed root later (history ++ (name, asked) ∷ []) ≡ last_failed root told history
-kept_by told later root name history asked h is =
-    ap (λ (o : Option (Option HostCall)). last_failed root o (history ++ (name, asked) ∷ [])) (is ∙ ap (λ (t : Bool). failed_with t (read_of root name) told) h) ∙ last_same told root name history asked h
-
-pub failed_kept : (result : Result ShapeFound HostFault) (told later : Option (Option HostCall)) (root name : List ℕ) (history : Calls) (asked : Asked) → UnlessHostFailed result (is_failed asked ≡ false)
-    → later ≡ failed_with (is_failed asked) (read_of root name) told → UnlessHostFailed result (last_failed root later (history ++ (name, asked) ∷ []) ≡ last_failed root told history)
-failed_kept (Ok found) told later root name history asked h is = kept_by told later root name history asked h is
-failed_kept (Err faults.Failed) told later root name history asked h is = tt
-failed_kept (Err faults.Memory) told later root name history asked h is = kept_by told later root name history asked h is
+pub failed_kept : (result : Result ShapeFound HostFault) (name : List ℕ) (history : Calls) (asked : Asked) → UnlessHostFailed result (is_failed asked ≡ false) → UnlessHostFailed result (failed_in (history ++ (name, asked) ∷ []) ≡ failed_in history)
+failed_kept (Ok found) name history asked h = failed_more history name asked ∙ ap (λ (t : Bool). if t then Some name else failed_in history) h
+failed_kept (Err faults.Failed) name history asked h = tt
+failed_kept (Err faults.Memory) name history asked h = failed_more history name asked ∙ ap (λ (t : Bool). if t then Some name else failed_in history) h

@@ -1,11 +1,10 @@
 -- What the history of a source's calls tells.
-use Rattle.std.specs.Prelude.{◌≡◌, ◌++◌, [], ◌∷◌, ℕ, Bool, true, false, ◌&&◌, ◌==◌, List, Option, None, Some, map, filter, option_map, bytes_eq, Contains, if◌then◌else◌}
+use Rattle.std.specs.Prelude.{◌≡◌, ◌++◌, [], ◌∷◌, ℕ, Bool, true, false, List, Option, None, Some, map, filter, option_map, Contains, if◌then◌else◌}
 use Rattle.jv_host.specs.declared.host.HostCall.{HostCall}
 use Rattle.jv_host.specs.declared.host.HostCall.TheVariants as calls
 use Rattle.av_program.specs.Reads.{file_of, most_read}
 use Rattle.av_library.specs.declared.history.Asked.{Asked}
 use Rattle.av_library.specs.declared.history.Asked.TheVariants as outcomes
-use Rattle.av_library.specs.Told.{class_of}
 
 -- the read of the file of the class of this name
 abbrev pub read_of : List ℕ → List ℕ → HostCall
@@ -66,18 +65,14 @@ abbrev pub failed_in : List (List ℕ × Asked) → Option (List ℕ)
 failed_in [] = None
 failed_in (call ∷ history) = later_or (failed_in history) (if is_failed call.1 then Some call.0 else None)
 
--- the class of whose file a call is the read of a source, under this root, or none
-abbrev pub class_read : List ℕ → Option HostCall → Option (List ℕ)
-class_read root None = None
-class_read root (Some (calls.ReadFile from file most)) =
-    if bytes_eq from root && (bytes_eq file (file_of (class_of file)) && most == most_read) then Some (class_of file) else None
-class_read root (Some (calls.ListRoot from most)) = None
-class_read root (Some (calls.WriteFile from file)) = None
+-- the read of the file of the class of this name, where there is one, and else the call of before
+abbrev pub read_or : List ℕ → Option (List ℕ) → Option HostCall → Option HostCall
+read_or root (Some name) before = Some (read_of root name)
+read_or root None before = before
 
--- the same, by what the host tells of the last call that failed, where it tells it
-abbrev pub last_failed : List ℕ → Option (Option HostCall) → List (List ℕ × Asked) → Option (List ℕ)
-last_failed root None history = failed_in history
-last_failed root (Some told) history = class_read root told
+-- the last call that failed, as a host tells it, after the calls of a history
+abbrev pub failed_after : List ℕ → List (List ℕ × Asked) → Option (Option HostCall) → Option (Option HostCall)
+failed_after root history told = option_map (λ before. read_or root (failed_in history) before) told
 
 -- the call is the read of the file of one of these names
 pub record IsReadOf (names : List (List ℕ)) (root : List ℕ) (call : HostCall) : Type 0 where

@@ -14,15 +14,21 @@ pub trait Began {
 
     /// The calls that the host had told by then.
     ghost calls: { Option (List HostCall) };
+
+    /// The last of them that failed, as the host told it.
+    ghost failed: { Option (Option HostCall) };
 }
 
 impl Began for Brand {
     ghost name = { 0 };
 
     ghost calls = { None };
+
+    ghost failed = { None };
 }
 
 /// A host that is lent. Each value of the type holds the same borrow.
+#[derive(Drop)]
 pub struct Lent<'a, H: Host, B: Began> {
     host: &'a mut H,
     of: PhantomData<B>,

@@ -3,7 +3,7 @@ ghost use Rattle.jv_types.specs.declared.quantity.Quantity.{Quantity as Quantity
 ghost use Rattle.jv_host.specs.declared.host.HostCall.{HostCall};
 ghost use Rattle.av_stops.specs.LibraryFolders.{IsStated};
 ghost use Rattle.av_library.specs.Counting.{AreCounted, PassNone, PassesBy, passed_of};
-ghost use Rattle.av_library.specs.History.{IsReadOf, answered_in, asked_in, last_failed, read_of, reads_in};
+ghost use Rattle.av_library.specs.History.{IsReadOf, answered_in, asked_in, failed_after, failed_in, read_of, reads_in};
 ghost use Rattle.av_library.specs.Told.{library_in};
 
 use crate::counted::Counted;
@@ -26,12 +26,14 @@ pub struct HostSource<'a, H: Host, B: Began> {
     of: PhantomData<B>,
     pub ghost right: { ∥ IfSome (H.Host.files host) (λ files. AreCounted files lib.now (answered_in history.items) counted) ∥₁ },
     pub ghost called: { H.Host.calls host ≡ option_map (λ earlier. earlier ++ reads_in lib.now history.items) B.Began.calls },
+    pub ghost failed: { H.Host.failed host ≡ failed_after lib.now history.items B.Began.failed },
 }
 
 impl<'a, H: Host, B: Began> HostSource<'a, H, B> {
     /// A source over a host, of the library under this root. Nothing was asked yet.
     pub fn new(host: H, lib: &'a Name) -> HostSource<'a, H, B>
-        requires { B.calls ≡ H.calls host }
+        requires calls { B.calls ≡ H.calls host }
+        requires failed { B.failed ≡ H.failed host }
         ensures host { result.host ≡ host }
         ensures lib { result.lib.now ≡ lib.now }
         ensures history { result.history.items ≡ [] }
@@ -50,15 +52,16 @@ impl<'a, H: Host, B: Began> HostSource<'a, H, B> {
 
     /// A law of each source: the quantity that passes its limit is one that passes by the files of the names that were
     /// answered, and where none does none passes. The calls that the host tells are those before the source was made,
-    /// and the reads of the files of names that were asked. The last name at which the source failed is that of the last
-    /// call that failed, where the host tells it.
+    /// and the reads of the files of names that were asked. The last call that failed, where the host tells it, is the
+    /// read of the last name at which the source failed, or the one before the source was made where it has not failed.
     pub fn tells(&self)
         ensures passes { IfSome (H.files self.now.host) (λ files. (quantity : QuantityValue) → passed_of self.now.counted ≡ Some quantity
             → PassesBy files self.now.lib.now (answered_in self.now.history.items) quantity) }
         ensures within { IfSome (H.files self.now.host) (λ files. passed_of self.now.counted ≡ None → PassNone files self.now.lib.now (answered_in self.now.history.items)) }
         ensures reads { (call : HostCall) → Contains (reads_in self.now.lib.now self.now.history.items) call → IsReadOf (asked_in self.now.history.items) self.now.lib.now call }
-        ensures failed { (name : List ℕ) → last_failed self.now.lib.now (H.failed self.now.host) self.now.history.items ≡ Some name
+        ensures failed { (name : List ℕ) → failed_in self.now.history.items ≡ Some name
             → IfSome (H.failed self.now.host) (λ told. told ≡ Some (read_of self.now.lib.now name)) }
+        ensures failed_not { failed_in self.now.history.items ≡ None → H.failed self.now.host ≡ B.failed }
         ensures called { H.calls self.now.host ≡ option_map (λ earlier. earlier ++ reads_in self.now.lib.now self.now.history.items) B.calls }
     {}
 
@@ -88,7 +91,7 @@ impl<H: Host, B: Began> ShapeSource for HostSource<'_, H, B> {
 
     ghost passed = { λ source. passed_of source.counted };
 
-    ghost failed = { λ source. last_failed source.lib.now (H.failed source.host) source.history.items };
+    ghost failed = { λ source. failed_in source.history.items };
 
     ghost kept = { λ source. record { write_faults = H.write_faults source.host; root = source.lib.now; files = H.files source.host; written = H.written source.host } };
 

@@ -1,5 +1,5 @@
 mod FileNames
-mod Told
+pub mod Told
 mod Sources
 mod Stops
 mod Underway

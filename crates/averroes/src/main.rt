@@ -1,7 +1,7 @@
 //! The program: the real host and the real sinks, and the top call over them.
 #![tactic(auto)]
 
-use av_cli::{Status, run, stop_for_memory};
+use av_run::{Status, run, stop_for_memory};
 use jv_host::{DirHost, StdSink};
 use std::alloc::{AllocError, Global};
 use std::env;

@@ -7,7 +7,7 @@ use anyhow::{Result, bail};
 use av_conditions::first_wrong;
 use jv_class::ClassFile;
 use jv_types::{Body, MethodId, Rule};
-use jv_verify::{NoBody, VerifyRefusal, body_of, verify};
+use jv_verify::{NoBody, VerifyRefusal, body_of, verify_body};
 use jv_world::World;
 use std::alloc::Global;
 
@@ -30,18 +30,18 @@ fn verified(
     world: &World,
     class: &ClassFile,
     id: MethodId,
-    body: &Body,
+    body: Body,
 ) -> Result<Outcome>
     requires method { HasMethod world.now id }
     requires distinct { AreDistinct class.now.pool class.now.methods }
-    requires has { HasBody world.now class.now id body.now }
+    requires has { HasBody world.now class.now id body }
 {
-    if let Some(pc) = first_wrong(alloc, world, body)? {
+    if let Some(pc) = first_wrong(alloc, world, &body)? {
         return Ok(Outcome::WrongReference { pc });
     }
-    match verify(alloc, world, class, id, body) {
-        Ok(_) => Ok(Outcome::Verified {
-            insns: body.insns.len(),
+    match verify_body(alloc, world, class, id, body) {
+        Ok(framed) => Ok(Outcome::Verified {
+            insns: framed.body.insns.len(),
         }),
         Err(VerifyRefusal::At { rule, pc }) => Ok(Outcome::Refused { rule, pc }),
         Err(VerifyRefusal::Memory) => bail!("out of memory"),
@@ -53,7 +53,7 @@ pub fn outcome_of(alloc: Global, world: &World, class: &ReadClass, id: MethodId)
     requires { HasMethod world.now id }
 {
     match body_of(alloc, world, &class.file, id) {
-        Ok(body) => verified(alloc, world, &class.file, id, &body),
+        Ok(body) => verified(alloc, world, &class.file, id, body),
         Err(NoBody::NoCode) => Ok(Outcome::NoCode),
         Err(NoBody::Length) => bail!("a code that is empty or too long"),
         Err(NoBody::At { pc }) => Ok(Outcome::Refused {

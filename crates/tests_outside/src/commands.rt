@@ -2,7 +2,7 @@ use crate::hosts::memory;
 use crate::reading::{field, number, parts};
 use crate::sinks::sink;
 use anyhow::Result;
-use av_cli::run;
+use av_run::run;
 use jv_host::{MemHost, MemSink};
 
 /// What came of a command: its status, what it printed and told, and how many files it wrote.

@@ -2,14 +2,13 @@
 use Rattle.std.specs.Prelude.{ℕ, List, [], ◌∷◌, ◌++◌, codes}
 use Rattle.jv_bytes.specs.Shown.{shown_text}
 use Rattle.av_outcome.specs.declared.status.Status.{Status}
-use Rattle.av_outcome.specs.declared.status.Status.TheVariants.{Done, Refused, Usage, ReadFault, WriteFault, Limit, Memory}
+use Rattle.av_outcome.specs.declared.status.Status.TheVariants.{Done, Refused, ReadFault, WriteFault, Limit, Memory}
 use Rattle.av_cli.specs.declared.calls.answer.Answer.{Answer}
-use Rattle.av_cli.specs.declared.calls.answer.Answer.TheVariants.{Printed, Misused, Unreadable, NoFile, TooLarge, NotClass, OutsideForm, NoMain, Unwritable, OutOfMemory}
+use Rattle.av_cli.specs.declared.calls.answer.Answer.TheVariants.{Printed, Unreadable, NoFile, TooLarge, NotClass, OutsideForm, NoMain, Unwritable, OutOfMemory}
 
 -- the status of an answer
 abbrev pub status_of : Answer → Status
 status_of Printed = Done
-status_of Misused = Usage
 status_of Unreadable = ReadFault
 status_of NoFile = Refused
 status_of TooLarge = Limit
@@ -31,17 +30,9 @@ file_most = 16777217
 abbrev pub request : List ℕ → List ℕ → List (List ℕ)
 request root name = codes "calls" ∷ root ∷ name ∷ []
 
--- the class that the words name, or nothing where there is no third word
-abbrev pub class_of_words : List (List ℕ) → List ℕ
-class_of_words [] = []
-class_of_words (command ∷ []) = []
-class_of_words (command ∷ root ∷ []) = []
-class_of_words (command ∷ root ∷ name ∷ words) = name
-
 -- the line that err gets: nothing where all was printed, and else why it wasn't, with what it is about in shown form
 abbrev pub error_line : List ℕ → Answer → List ℕ
 error_line name Printed = []
-error_line name Misused = codes "averroes: usage: calls ROOT NAME" ++ 10 ∷ []
 error_line name Unreadable = codes "averroes: read fault " ++ shown_text (file_name name) ++ 10 ∷ []
 error_line name NoFile = codes "averroes: refused 20 NoMain " ++ shown_text name ++ 10 ∷ []
 error_line name TooLarge = codes "averroes: limit file-bytes 16777216" ++ 10 ∷ []

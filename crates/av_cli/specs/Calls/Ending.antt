@@ -1,6 +1,6 @@
 -- How the command that prints the calls of one class ends: what each answer says of the words, the file
 -- and the two sinks.
-use Rattle.std.specs.Prelude.{◌≡◌, ◌≢◌, ◌⊎◌, ℕ, List, [], ◌∷◌, ◌++◌, Option, Some, None, IfSome, option_map}
+use Rattle.std.specs.Prelude.{◌≡◌, ◌⊎◌, ℕ, List, [], ◌∷◌, ◌++◌, Option, Some, None, IfSome, option_map}
 use Rattle.jv_host.specs.declared.host.HostFile.{HostFile}
 use Rattle.jv_host.specs.declared.host.HostCall.{HostCall}
 use Rattle.jv_host.specs.declared.host.HostCall.TheVariants.{ReadFile}
@@ -8,14 +8,13 @@ use Rattle.jv_host.specs.Counts.{Rises}
 use Rattle.jv_host.specs.Files.{bytes_of}
 use Rattle.calls_form.specs.declared.object_class.ObjectClass.{ObjectClass}
 use Rattle.calls_form.specs.ObjectForm.{IsObjectClass}
-use Rattle.av_outcome.specs.declared.status.Status.{Status}
 use Rattle.av_cli.specs.declared.calls.answer.Answer.{Answer}
-use Rattle.av_cli.specs.declared.calls.answer.Answer.TheVariants.{Printed, Misused, Unreadable, NoFile, TooLarge, NotClass, OutsideForm, NoMain, Unwritable, OutOfMemory}
+use Rattle.av_cli.specs.declared.calls.answer.Answer.TheVariants.{Printed, Unreadable, NoFile, TooLarge, NotClass, OutsideForm, NoMain, Unwritable, OutOfMemory}
 use Rattle.av_cli.specs.Calls.Promise.{IsCallGraph}
 use Rattle.av_cli.specs.Calls.FileKinds.{IsTooLarge, IsClassFile, IsNoClass, IsOutsideForm, DeclaresMain, LacksMain}
-use Rattle.av_outcome.specs.Handing.{SinkState, Takes, TakesFront, AreCountsKept, Says}
-use Rattle.av_cli.specs.Outside.{Outside, NothingPrinted, IsFaultless}
-use Rattle.av_cli.specs.Calls.Answers.{status_of, file_name, file_most, request, class_of_words, error_line}
+use Rattle.av_outcome.specs.Handing.{SinkState, Takes, TakesFront, AreCountsKept}
+use Rattle.av_cli.specs.Outside.{Outside, NothingPrinted}
+use Rattle.av_cli.specs.Calls.Answers.{file_name, file_most, request}
 
 -- where files are told, the class's file under the root has these bytes
 abbrev pub HasFile : Outside → List ℕ → List ℕ → List ℕ → Type 0
@@ -35,7 +34,6 @@ Prints name bytes old new Unwritable =
 -- nothing was printed, or a front of the lines
 Prints name bytes old new OutOfMemory = (new ≡ old) ⊎ ((text : List ℕ) × IsCallGraph name bytes text × TakesFront old new text)
 -- the other answers say nothing of bytes
-Prints name bytes old new Misused = ⊥
 Prints name bytes old new Unreadable = ⊥
 Prints name bytes old new NoFile = ⊥
 
@@ -58,23 +56,12 @@ Concludes o root name OutOfMemory = NothingPrinted o ⊎ ConcludesBytes o root n
 Concludes o root name Unreadable =
     Rises o.reads_before o.reads_after × IfSome o.failed (λ call. call ≡ Some (ReadFile root (file_name name) file_most)) × NothingPrinted o
 Concludes o root name NoFile = IfSome o.files (λ told. bytes_of told root (file_name name) ≡ None) × NothingPrinted o
-Concludes o root name Misused = ⊥
-
--- the words are no command
-abbrev pub AreMisused : List (List ℕ) → Type 0
-AreMisused words = (root name : List ℕ) → words ≢ request root name
-
--- the cause of an answer
-abbrev pub HasCause : List (List ℕ) → Outside → Answer → Type 0
-HasCause words o Misused = AreMisused words × NothingPrinted o
-HasCause words o answer = (root : List ℕ) × (name : List ℕ) × (words ≡ request root name) × Concludes o root name answer
 
 -- the answer that words and told files determine, where nothing fails
 abbrev pub IsDue : List (List ℕ) → List HostFile → Answer → Type 0
 IsDue words told Printed =
     (root : List ℕ) × (name : List ℕ) × (bytes : List ℕ) × (class : ObjectClass) × (words ≡ request root name)
     × (bytes_of told root (file_name name) ≡ Some bytes) × IsClassFile bytes × IsObjectClass name bytes class × DeclaresMain class
-IsDue words told Misused = AreMisused words
 IsDue words told NoFile = (root : List ℕ) × (name : List ℕ) × (words ≡ request root name) × (bytes_of told root (file_name name) ≡ None)
 IsDue words told TooLarge =
     (root : List ℕ) × (name : List ℕ) × (bytes : List ℕ) × (words ≡ request root name)
@@ -91,19 +78,6 @@ IsDue words told NoMain =
 IsDue words told Unreadable = ⊥
 IsDue words told Unwritable = ⊥
 IsDue words told OutOfMemory = ⊥
-
--- how the command ended
-pub record Ends (words : List (List ℕ)) (o : Outside) (err_before err_after : SinkState) (status : Status) : Type 0 where
-  pub answer : Answer
-  -- the status is the answer's
-  pub status_is : status ≡ status_of answer
-  -- the answer has its cause
-  pub cause : HasCause words o answer
-  -- it is the answer that is due, unless something fails or memory is wanting
-  pub exact : (told : List HostFile) → o.files ≡ Some told → (due : Answer) → IsDue words told due → IsFaultless o
-      → (answer ≡ due) ⊎ (answer ≡ OutOfMemory)
-  -- and err was told so
-  pub said : Says err_before err_after (error_line (class_of_words words) answer)
 
 -- the calls of the host, where it tells them: at most the one read of the class's file
 abbrev pub CallsOnlyRead : List (List ℕ) → Option (List HostCall) → Option (List HostCall) → Type 0

@@ -8,8 +8,6 @@ use av_outcome::Status;
 pub enum Answer {
     /// All lines were printed.
     Printed,
-    /// The words are no command.
-    Misused,
     /// The host failed to read the file.
     Unreadable,
     /// There is no such file.
@@ -35,7 +33,6 @@ impl Answer {
     {
         match self {
             Answer::Printed => Status::Done,
-            Answer::Misused => Status::Usage,
             Answer::Unreadable => Status::ReadFault,
             Answer::NoFile => Status::Refused,
             Answer::TooLarge => Status::Limit,

@@ -16,7 +16,6 @@ pub fn write_answer<E: Sink>(err: &mut E, answer: Answer, name: &[u8]) -> Result
 {
     match answer {
         Answer::Printed => Ok(()),
-        Answer::Misused => write_whole(err, b"averroes: usage: calls ROOT NAME\n"),
         Answer::Unreadable => write_about(err, b"averroes: read fault ", name, b".class\n"),
         Answer::NoFile => write_about(err, b"averroes: refused 20 NoMain ", name, b"\n"),
         Answer::TooLarge => write_whole(err, b"averroes: limit file-bytes 16777216\n"),

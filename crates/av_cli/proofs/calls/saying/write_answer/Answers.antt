@@ -12,7 +12,7 @@ returns-in-NoFile-clause-said g c =
     rw c.in-NoFile.is (Handed-is _ _ _ _ _ (line_of_name (codes "averroes: refused 20 NoMain ") c.args.name.now) c.write_about-in-NoFile.ensures.handed)
 
 pub returns-in-TooLarge-clause-said : goal.returns-in-TooLarge-clause-said
-returns-in-TooLarge-clause-said g c = rw c.in-TooLarge.is c.write_whole-in-TooLarge.ensures.handed
+returns-in-TooLarge-clause-said g c = rw c.in-TooLarge.is c.write_whole.ensures.handed
 
 pub returns-in-NotClass-clause-said : goal.returns-in-NotClass-clause-said
 returns-in-NotClass-clause-said g c =

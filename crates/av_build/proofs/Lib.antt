@@ -1,0 +1,7 @@
+mod Lists
+mod Distinct
+mod Complete
+mod Parts
+mod Causes
+mod Built
+mod Outcomes

@@ -1,0 +1,3 @@
+mod Sorting
+mod Sums
+mod Limits

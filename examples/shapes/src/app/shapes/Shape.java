@@ -1,0 +1,6 @@
+package shapes;
+
+/** Something with an area. */
+public interface Shape {
+    int area();
+}

@@ -1,0 +1,7 @@
+package java.lang;
+
+public final class Class<T> implements java.io.Serializable {
+    public String getName() {
+        return null;
+    }
+}

@@ -1,0 +1,13 @@
+package java.lang;
+
+public class Throwable implements java.io.Serializable {
+    public Throwable() {
+    }
+
+    public Throwable(String message) {
+    }
+
+    public String getMessage() {
+        return null;
+    }
+}
