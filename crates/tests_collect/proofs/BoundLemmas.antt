@@ -1,5 +1,5 @@
 -- Bounds of what a library's class declares, from their tests.
-use Rattle.std.proofs.Common.{◌≡◌, ℕ, ◌+◌, ◌<◌, ◌≤◌, ◌&&◌, Bool, true, false, min, nat_le, inl, inr, List, [], ◌∷◌, Option, None, Some, Contains, length, refl, ap, sym, ◌∙◌, subst, arith}
+use Rattle.std.proofs.Common.{◌≡◌, ℕ, ◌+◌, ◌≤◌, ◌&&◌, Bool, true, false, min, nat_le, inl, inr, List, [], ◌∷◌, Option, Some, Contains, length, refl, ap, sym, ◌∙◌, subst, arith}
 use Rattle.std.specs.List.{list_all}
 use Rattle.std.proofs.lemmas.Bool.Decides.{nat_tests}
 use Rattle.jv_types.specs.declared.desc.Desc.{Desc}

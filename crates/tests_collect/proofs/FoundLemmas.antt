@@ -1,5 +1,5 @@
 -- What files have under a name.
-use Rattle.std.proofs.Common.{◌≡◌, ℕ, Bool, true, false, cond, inl, inr, List, [], ◌∷◌, Option, None, Some, find, Contains, refl, ap, sym, ◌∙◌, subst}
+use Rattle.std.proofs.Common.{◌≡◌, ℕ, Bool, true, false, cond, inl, inr, List, [], ◌∷◌, None, Some, find, Contains, refl, ap, ◌∙◌, subst}
 use Rattle.std.specs.Cmp.Lexicographic.{bytes_decides}
 use Rattle.jv_types.specs.declared.quantity.Quantity.{Quantity}
 use Rattle.jv_types.specs.declared.shapes.Shape.{Shape}

@@ -1,8 +1,7 @@
 -- What collection asks of an application, from its tests.
-use Rattle.std.proofs.Common.{◌≡◌, ℕ, ◌+◌, ◌<◌, ◌≤◌, ◌&&◌, ◌^◌, Bool, true, false, cond, inl, inr, List, [], ◌∷◌, Option, None, Some, find, All, Contains, length, refl, sym, ◌∙◌, subst, arith}
+use Rattle.std.proofs.Common.{◌≡◌, ℕ, ◌+◌, ◌<◌, ◌≤◌, ◌&&◌, ◌^◌, Bool, true, false, cond, inl, inr, List, [], ◌∷◌, Some, find, All, Contains, length, refl, sym, subst, arith}
 use Rattle.std.specs.List.{list_all, slice_get}
 use Rattle.std.specs.Cmp.Lexicographic.{bytes_decides}
-use Rattle.std.proofs.lemmas.Bool.Decides.{nat_tests}
 use Rattle.std.proofs.lemmas.List.Elements.{All-contains}
 use Rattle.jv_types.specs.declared.desc.MethodDesc.{MethodDesc}
 use Rattle.jv_types.specs.declared.desc.RefType.{RefType}
@@ -19,7 +18,7 @@ use Rattle.av_collected.specs.declared.method_body.MethodBody.{MethodBody}
 use Rattle.av_collected.specs.Conditions.{AreGiven, IsMethodBody}
 use Rattle.av_collected.specs.Libraries.{IsBounded}
 use Rattle.av_collected.specs.Naming.{ArgHasDims, TypeHasDims}
-use Rattle.av_collected.specs.Types.{dims_of, MentionsDims}
+use Rattle.av_collected.specs.Types.{MentionsDims}
 use Rattle.tests_collect.specs.Bounds.{has_small_field, has_small_method, has_small_parts}
 use Rattle.tests_collect.specs.Given.{IsFitBody, is_class_named, is_class_text, is_of_application, is_small_arg, is_small_item, is_small_row}
 use Rattle.tests_collect.proofs.BoundLemmas.{all_at, first_of, second_of, small_field, small_method, small_part, small_type}

@@ -1,5 +1,5 @@
 -- Tests of the bounds of what a library's class declares.
-use Rattle.std.specs.Prelude.{Bool, true, ◌&&◌, nat_le, List, Option, None, Some}
+use Rattle.std.specs.Prelude.{Bool, true, ◌&&◌, nat_le, Option, None, Some}
 use Rattle.std.specs.List.{list_all}
 use Rattle.jv_types.specs.declared.desc.Desc.{Desc}
 use Rattle.jv_types.specs.declared.desc.MethodDesc.{MethodDesc}

@@ -1,4 +1,4 @@
-use Rattle.std.proofs.Common.{ap, refl}
+use Rattle.std.proofs.Common.{ap}
 use Rattle.av_collected.specs.Types.{dims_of}
 use Rattle.jv_desc.specs.Texts.{ref_dims}
 use Rattle.tests_collect.proofs.BoundLemmas.{ref_small}

@@ -1,4 +1,4 @@
-use Rattle.std.proofs.Common.{◌≡◌, ◌≤◌, ◌∙◌, length, sym, arith}
+use Rattle.std.proofs.Common.{◌≤◌, ◌∙◌, length, sym, arith}
 use Rattle.tests_collect.proofs.GivenLemmas.{are_given}
 use Rattle.tests_collect.proofs.given.may_be_given.Goals as goal
 

@@ -1,4 +1,4 @@
-use Rattle.std.proofs.Common.{◌∙◌, ◌++◌, ◌∷◌, [], List, Contains, ap}
+use Rattle.std.proofs.Common.{◌∙◌, ◌++◌, ◌∷◌, [], Contains, ap}
 use Rattle.av_collected.specs.Libraries.{LibraryFile}
 use Rattle.av_reading.proofs.ReadLemmas.{not_there}
 use Rattle.tests_collect.proofs.LibraryLemmas.{library_begins, library_more}

@@ -1,4 +1,4 @@
-use Rattle.std.proofs.Common.{◌≡◌, Option, None, IfOk, sym, subst}
+use Rattle.std.proofs.Common.{Option, IfOk, sym, subst}
 use Rattle.jv_types.specs.declared.quantity.Quantity.{Quantity}
 use Rattle.av_collected.specs.Sources.{TellsPassed}
 use Rattle.tests_collect.proofs.mem_source.answer.Goals as goal
