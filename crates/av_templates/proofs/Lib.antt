@@ -1,1 +1,4 @@
 pub mod Adding
+pub mod Begun
+pub mod Landing
+pub mod Params

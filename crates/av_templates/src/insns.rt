@@ -1,7 +1,7 @@
 ghost use Rattle.std.specs.Prelude.{◌≡◌, IfOk};
 ghost use Rattle.av_conditions.specs.StandIn.{library_name};
 ghost use Rattle.av_standin_of.specs.Names.{extra_desc};
-ghost use Rattle.av_standin_of.specs.Codes.{plain, aload, holder, checkcast, call_extra};
+ghost use Rattle.av_standin_of.specs.Codes.{plain, aload, holder, get_known, put_known, put_fresh, checkcast, call_extra};
 
 use jv_table::ops;
 use jv_types::{Arg, Copied, Desc, FieldRef, Insn, MethodDesc, MethodRef, Name, RefType, Seq};
@@ -30,7 +30,7 @@ pub fn aload(local: u16) -> Insn
 }
 
 /// The name of the class that has what a library knows. Only memory can be wanting.
-fn library_name(alloc: Global) -> Result<Name, AllocError>
+pub fn library_name(alloc: Global) -> Result<Name, AllocError>
     ensures { IfOk result (λ name. name ≡ library_name) }
 {
     Name::from_slice(alloc, b"averroes/Library".as_slice())
@@ -51,6 +51,27 @@ pub fn holder(alloc: Global, op: u8, name: &[u8]) -> Result<Insn, AllocError>
         wide: false,
         arg: Arg::Field(field),
     })
+}
+
+/// A read of what the library knows. Only memory can be wanting.
+pub fn get_known(alloc: Global) -> Result<Insn, AllocError>
+    ensures { IfOk result (λ insn. insn ≡ get_known) }
+{
+    holder(alloc, ops::GETSTATIC, b"known".as_slice())
+}
+
+/// A write by which an object becomes known. Only memory can be wanting.
+pub fn put_known(alloc: Global) -> Result<Insn, AllocError>
+    ensures { IfOk result (λ insn. insn ≡ put_known) }
+{
+    holder(alloc, ops::PUTSTATIC, b"known".as_slice())
+}
+
+/// A write by which an object is one that was only made. Only memory can be wanting.
+pub fn put_fresh(alloc: Global) -> Result<Insn, AllocError>
+    ensures { IfOk result (λ insn. insn ≡ put_fresh) }
+{
+    holder(alloc, ops::PUTSTATIC, b"fresh".as_slice())
 }
 
 /// A cast to a type. Only memory can be wanting.

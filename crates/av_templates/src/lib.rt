@@ -3,12 +3,22 @@
 
 mod frames;
 mod insns;
+mod methods;
 mod parts;
 mod putting;
 mod values;
+mod which;
 
 pub use frames::frame_of;
-pub use insns::{aload, call_extra, checkcast, extra_desc, holder, plain};
-pub use parts::hand_over;
-pub use putting::{Locals, put, put_branch, single};
-pub use values::{object_vtype, zero_op};
+pub use insns::{
+    aload, call_extra, checkcast, extra_desc, get_known, holder, library_name, plain, put_fresh,
+    put_known,
+};
+pub use methods::{entry_locals, locals_of, template};
+pub use parts::{answers, calls_super, hand_over, hand_over_params, throws};
+pub use putting::{Locals, copied, pushed, put, put_branch, single, with_descs};
+pub use values::{
+    known_as, object_vtype, prim_vtype, return_op, throwable_name, throwable_vtype, value_of,
+    values_of, zero_op,
+};
+pub use which::{is_abstract, is_constructor, is_fresh_maker};
