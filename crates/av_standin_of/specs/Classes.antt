@@ -161,7 +161,7 @@ OverridesNoFinal w c name desc =
     (m : MethodId) (shape : MethodShape) → IsMethod w m shape → IsMethodCalled name desc shape → IsSubclass w c m.class.number → AnyOverrides w c m
     → ¬ IsFinalMethod shape.flags
 
--- a public method of any object, which has no other flag and no method of whose class begins otherwise
+-- a public method of the class of any object. It has no other flag, and no instructions stand before the template.
 abbrev pub any_method : List ℕ → List ℕ → MethodDesc → MadeMethod
 any_method class name desc =
     method name desc (access 0x0001) (Some (template class (record { name = name; desc = desc; flags = access 0x0001; code = true }) []))
