@@ -1,6 +1,4 @@
-use Rattle.std.proofs.Common.{◌≡◌, ◌∷◌, [], ◌++◌, ℕ, List, Option, Some, option_map, IfSome, sym, subst}
-use Rattle.jv_host.specs.declared.host.HostCall.{HostCall}
-use Rattle.jv_host.specs.declared.host.HostFile.{HostFile}
+use Rattle.std.proofs.Common.{◌≡◌, ◌++◌, ℕ, List, Some, option_map, IfSome, sym, subst}
 use Rattle.jv_host.specs.HostAnswer.{OnHostFailed, UnlessHostFailed}
 use Rattle.av_library.specs.declared.history.Asked.{Asked}
 use Rattle.av_library.specs.Counting.{AreCounted}
