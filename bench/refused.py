@@ -71,8 +71,6 @@ def accepted_rows():
     row("a folder that isn't there", [], "read fault ab%20sent", words=["verify", "--app", "ab sent", "--lib", "lib"])
     row("a file of the library that can't be read", [], "read fault java/lang/String.class", without=["java/lang/String"],
         lib=[("java/lang/String.class/x", b"")])
-    row("a file that can't be looked up in the library", [plain().init()], "read fault app/A.class",
-        lib=[("app/A.class/x", b"")])
     row("a library that isn't there", [], "refused 6 MissingClass java/io/Serializable",
         words=["verify", "--app", "app", "--lib", "absent"])
 
