@@ -8,6 +8,8 @@ use Rattle.jv_table.specs.declared.class_tables.FrameRow.{FrameRow}
 use Rattle.jv_table.specs.declared.class_tables.TypeRow.{TypeRow}
 use Rattle.jv_table.specs.declared.class_tables.FrameGroup.{FrameGroup}
 use Rattle.jv_table.specs.declared.class_tables.FrameGroup.TheVariants.{Same, SameOne, SameOneExtended, Chop, SameExtended, Append, Full}
+use Rattle.jv_table.specs.declared.frame_tags.TheConstants.{SAME_EXTENDED}
+use Rattle.jv_table.specs.declared.vtype_tags.TheConstants.{OBJECT}
 use Rattle.jv_pool.specs.declared.item.PoolItem.{PoolItem}
 use Rattle.jv_pool.specs.Lookups.{names, is_class}
 use Rattle.jv_pool.specs.PoolText.{u2}
@@ -36,9 +38,9 @@ IsArg None arg = ⊥
 IsArg (Some false) arg = arg ≡ 0
 IsArg (Some true) arg = arg < 2 ^ 16
 
--- the number of an object (tag 7) names a class
+-- the number of an object names a class
 abbrev pub is_typed : List PoolItem → ℕ → ℕ → Bool
-is_typed pool tag arg = not (tag == 7) || names is_class pool arg
+is_typed pool tag arg = not (tag == OBJECT) || names is_class pool arg
 
 -- a verification type
 pub record IsType (pool : List PoolItem) (t : MapType) : Type 0 where
@@ -62,7 +64,7 @@ abbrev pub frame_text : MapFrame → List ℕ
 frame_text f = f.kind ∷ parts_text (group_of f.kind) f
 
 -- what a frame of a group has: what isn't written is 0 or empty, one type on the stack where there is one,
--- and as many appended locals as its kind is above 251
+-- and as many appended locals as its kind is above that of a frame that has the same ones
 abbrev pub HasParts : Option FrameGroup → MapFrame → Type 0
 HasParts None f = ⊥
 HasParts (Some Same) f = (f.delta ≡ 0) × (f.locals ≡ []) × (f.stack ≡ [])
@@ -70,7 +72,7 @@ HasParts (Some SameOne) f = (f.delta ≡ 0) × (f.locals ≡ []) × (length f.st
 HasParts (Some SameOneExtended) f = (f.delta < 2 ^ 16) × (f.locals ≡ []) × (length f.stack ≡ 1)
 HasParts (Some Chop) f = (f.delta < 2 ^ 16) × (f.locals ≡ []) × (f.stack ≡ [])
 HasParts (Some SameExtended) f = (f.delta < 2 ^ 16) × (f.locals ≡ []) × (f.stack ≡ [])
-HasParts (Some Append) f = (f.delta < 2 ^ 16) × (length f.locals ≡ f.kind - 251) × (f.stack ≡ [])
+HasParts (Some Append) f = (f.delta < 2 ^ 16) × (length f.locals ≡ f.kind - SAME_EXTENDED) × (f.stack ≡ [])
 HasParts (Some Full) f = f.delta < 2 ^ 16
 
 -- a frame, apart from how many types a full one may have

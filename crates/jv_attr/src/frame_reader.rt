@@ -8,7 +8,7 @@ use crate::frame::{MapFrame, MapType};
 use jv_bytes::Cursor;
 use jv_pool::{Pool, PoolItem};
 use jv_read::{Part, ReadFault, read_counted, read_many, read_u1, read_u2};
-use jv_table::{FrameGroup, frame_kind, type_tag};
+use jv_table::{FrameGroup, frame_kind, frame_tags, type_tag, vtype_tags};
 use jv_types::Seq;
 use std::alloc::Global;
 
@@ -49,7 +49,7 @@ fn read_arg(cursor: &mut Cursor, written: bool) -> Result<u16, ReadFault>
     if written { read_u2(cursor) } else { Ok(0) }
 }
 
-/// A verification type (JVMS 4.7.4). The number of an object (tag 7) names a class.
+/// A verification type (JVMS 4.7.4). The number of an object names a class.
 #[tactic(auto, unfolding(crate::specs::Steps::AttrReading::type_at))]
 fn read_type(cursor: &mut Cursor, pool: &Pool) -> Result<MapType, ReadFault>
     ensures { Gives (λ x. x) result cursor.new (type_at pool.now cursor.old) }
@@ -59,7 +59,7 @@ fn read_type(cursor: &mut Cursor, pool: &Pool) -> Result<MapType, ReadFault>
         return Err(ReadFault::Bad);
     };
     let arg = read_arg(cursor, written)?;
-    if tag == 7 && !names_class(pool, arg) {
+    if tag == vtype_tags::OBJECT && !names_class(pool, arg) {
         return Err(ReadFault::Bad);
     }
     Ok(MapType { tag, arg })
@@ -159,7 +159,7 @@ fn read_delta(alloc: Global, cursor: &mut Cursor, kind: u8) -> Result<MapFrame, 
     })
 }
 
-/// A frame that appends as many locals as its kind is above 251.
+/// A frame that appends as many locals as its kind is above that of a frame that has the same ones.
 #[tactic(auto, unfolding(crate::specs::Steps::AttrReading::append_at))]
 fn read_append(
     alloc: Global,
@@ -170,7 +170,7 @@ fn read_append(
     ensures { Gives (λ x. x) result cursor.new (append_at pool.now kind cursor.old) }
 {
     let delta = read_u2(cursor)?;
-    let count = u16::from(kind.saturating_sub(251));
+    let count = u16::from(kind.saturating_sub(frame_tags::SAME_EXTENDED));
     let locals = read_types(alloc, cursor, pool, count)?;
     Ok(MapFrame {
         kind,

@@ -6,6 +6,8 @@ use Rattle.jv_table.specs.Rows.{row_of}
 use Rattle.jv_table.specs.declared.class_tables.FrameGroup.{FrameGroup}
 use Rattle.jv_table.specs.declared.class_tables.FrameGroup.TheVariants.{Same, SameOne, Chop, Append, Full}
 use Rattle.jv_table.specs.declared.ops.TheConstants.{NEW}
+use Rattle.jv_table.specs.declared.frame_tags.TheConstants.{FIRST_SAME_LOCALS_1_STACK_ITEM, SAME_EXTENDED}
+use Rattle.jv_table.specs.declared.vtype_tags.TheConstants.{TOP, INTEGER, FLOAT, DOUBLE, LONG, NULL, UNINITIALIZED_THIS, OBJECT, UNINITIALIZED}
 use Rattle.jv_types.specs.Bodies.{at_offset, IsStart}
 use Rattle.jv_types.specs.declared.desc.RefType.{RefType}
 use Rattle.jv_types.specs.declared.ids.MethodId.{MethodId}
@@ -35,13 +37,13 @@ use Rattle.jv_frames.specs.Entry.{AreEntryTypes}
 -- the types of the tags that have no number behind them
 abbrev pub plain_types : List (ℕ × VType)
 plain_types =
-    (0, types.Top)
-    ∷ (1, types.Integer)
-    ∷ (2, types.Float)
-    ∷ (3, types.Double)
-    ∷ (4, types.Long)
-    ∷ (5, types.Null)
-    ∷ (6, types.UninitThis) ∷ []
+    (TOP, types.Top)
+    ∷ (INTEGER, types.Integer)
+    ∷ (FLOAT, types.Float)
+    ∷ (DOUBLE, types.Double)
+    ∷ (LONG, types.Long)
+    ∷ (NULL, types.Null)
+    ∷ (UNINITIALIZED_THIS, types.UninitThis) ∷ []
 
 abbrev pub plain_type : ℕ → Option VType
 plain_type tag = row_of nat_cmp tag plain_types
@@ -49,9 +51,9 @@ plain_type tag = row_of nat_cmp tag plain_types
 -- the types of the two tags that have one
 pub data IsNumbered (pool : List PoolItem) (t : MapType) (type : VType) : Type 0 where
   -- the class or array type that the pool has at the index
-  object : (of : RefType) → t.tag ≡ 7 → NamesType pool t.arg of → type ≡ ref_vtype of → IsNumbered pool t type
+  object : (of : RefType) → t.tag ≡ OBJECT → NamesType pool t.arg of → type ≡ ref_vtype of → IsNumbered pool t type
   -- what the `new` at the offset makes
-  uninit : t.tag ≡ 8 → type ≡ types.Uninit t.arg → IsNumbered pool t type
+  uninit : t.tag ≡ UNINITIALIZED → type ≡ types.Uninit t.arg → IsNumbered pool t type
 
 -- a type as it is written over a pool is this one
 abbrev pub IsTypeOf : List PoolItem → MapType → VType → Type 0
@@ -63,7 +65,7 @@ IsTypeOf pool t type = MatchOption (plain_type t.tag) (IsNumbered pool t type) (
 -- groups have it in their kind, the standard's frame_type
 abbrev pub delta_in : Option FrameGroup → MapFrame → ℕ
 delta_in (Some Same) f = f.kind
-delta_in (Some SameOne) f = f.kind - 64
+delta_in (Some SameOne) f = f.kind - FIRST_SAME_LOCALS_1_STACK_ITEM
 delta_in _ f = f.delta
 
 abbrev pub frame_delta : MapFrame → ℕ
@@ -80,7 +82,7 @@ IsLonger pool before written longer = (more : List VType) × AllZip (IsTypeOf po
 -- the types of local variables that a frame of a group has, where these were before it
 abbrev pub AreLocalsIn : Option FrameGroup → List PoolItem → List VType → MapFrame → List VType → Type 0
 AreLocalsIn None pool before f locals = ⊥
-AreLocalsIn (Some Chop) pool before f locals = IsFront before (251 - f.kind) locals
+AreLocalsIn (Some Chop) pool before f locals = IsFront before (SAME_EXTENDED - f.kind) locals
 AreLocalsIn (Some Append) pool before f locals = IsLonger pool before f.locals locals
 AreLocalsIn (Some Full) pool before f locals = AllZip (IsTypeOf pool) f.locals locals
 AreLocalsIn (Some _) pool before f locals = locals ≡ before
@@ -92,7 +94,7 @@ pub record HasTypes (pool : List PoolItem) (before : List VType) (f : MapFrame) 
 
 -- a frame that takes types of local variables away takes no more than there are
 abbrev pub HasLocalsToChopIn : Option FrameGroup → List VType → MapFrame → Type 0
-HasLocalsToChopIn (Some Chop) before f = 251 - f.kind ≤ length before
+HasLocalsToChopIn (Some Chop) before f = SAME_EXTENDED - f.kind ≤ length before
 HasLocalsToChopIn _ before f = Unit {0}
 
 abbrev pub HasLocalsToChop : List VType → MapFrame → Type 0

@@ -9,7 +9,7 @@ ghost use Rattle.jv_insn.specs.Steps.Writing.{FitsMethod, FitsJump, FitsArg};
 use crate::switches::padding_at;
 use jv_bytes::Writer;
 use jv_desc::arg_words;
-use jv_table::{Form, ops};
+use jv_table::{Form, atypes, ops};
 use jv_types::{Arg, MethodRef, Prim};
 use std::alloc::AllocError;
 
@@ -91,14 +91,14 @@ fn atype_of(prim: Prim) -> u8
     ensures { result ≡ atype_of prim }
 {
     match prim {
-        Prim::Boolean => 4,
-        Prim::Char => 5,
-        Prim::Float => 6,
-        Prim::Double => 7,
-        Prim::Byte => 8,
-        Prim::Short => 9,
-        Prim::Int => 10,
-        Prim::Long => 11,
+        Prim::Boolean => atypes::T_BOOLEAN,
+        Prim::Char => atypes::T_CHAR,
+        Prim::Float => atypes::T_FLOAT,
+        Prim::Double => atypes::T_DOUBLE,
+        Prim::Byte => atypes::T_BYTE,
+        Prim::Short => atypes::T_SHORT,
+        Prim::Int => atypes::T_INT,
+        Prim::Long => atypes::T_LONG,
     }
 }
 

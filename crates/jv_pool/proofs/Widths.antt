@@ -8,6 +8,7 @@ use Rattle.std.proofs.lemmas.Int.{of_z-to_z}
 use Rattle.std.proofs.lemmas.Nat.{div-mul-add, mod-mul-add}
 use borrow.Author.Gap.{read_sfits}
 use Rattle.jv_bytes.specs.Numbers.{number_text}
+use Rattle.jv_table.specs.declared.tags.TheConstants.{UTF8, INTEGER, FLOAT, LONG, DOUBLE, CLASS, STRING, FIELDREF, METHODREF, INTERFACE_METHODREF, NAME_AND_TYPE, METHOD_HANDLE, METHOD_TYPE, INVOKE_DYNAMIC}
 use Rattle.jv_pool.specs.declared.item.PoolItem.{PoolItem}
 use Rattle.jv_pool.specs.declared.item.PoolItem.TheVariants as items
 use Rattle.jv_pool.specs.declared.fields.Fields.{Fields}
@@ -136,20 +137,20 @@ fields_again (Handle kind member) rest fits =
 
 -- the tag of an item, and 0 where it has none
 abbrev pub tag_of : PoolItem → ℕ
-tag_of (items.Utf8 bytes) = 1
-tag_of (items.Integer n) = 3
-tag_of (items.Float bits) = 4
-tag_of (items.Long n) = 5
-tag_of (items.Double bits) = 6
-tag_of (items.Class name) = 7
-tag_of (items.Text text) = 8
-tag_of (items.Field class pair) = 9
-tag_of (items.Method class pair) = 10
-tag_of (items.InterfaceMethod class pair) = 11
-tag_of (items.NameAndType name desc) = 12
-tag_of (items.MethodHandle kind member) = 15
-tag_of (items.MethodType desc) = 16
-tag_of (items.InvokeDynamic bootstrap pair) = 18
+tag_of (items.Utf8 bytes) = UTF8
+tag_of (items.Integer n) = INTEGER
+tag_of (items.Float bits) = FLOAT
+tag_of (items.Long n) = LONG
+tag_of (items.Double bits) = DOUBLE
+tag_of (items.Class name) = CLASS
+tag_of (items.Text text) = STRING
+tag_of (items.Field class pair) = FIELDREF
+tag_of (items.Method class pair) = METHODREF
+tag_of (items.InterfaceMethod class pair) = INTERFACE_METHODREF
+tag_of (items.NameAndType name desc) = NAME_AND_TYPE
+tag_of (items.MethodHandle kind member) = METHOD_HANDLE
+tag_of (items.MethodType desc) = METHOD_TYPE
+tag_of (items.InvokeDynamic bootstrap pair) = INVOKE_DYNAMIC
 tag_of items.Hole = 0
 
 -- a tag and numbers are an item's
@@ -187,27 +188,27 @@ u8_halves high low lt =
 pub item_of_makes : (tag : ℕ) (fields : Fields) (item : PoolItem) → AreFitting fields → item_of tag fields ≡ Some item → Makes tag fields item
 unfolding item_of
 item_of_makes tag (Index n) item fits e =
-    one_of tag 7 (Index n) (items.Class n) item _ e (λ t. record { tag_is = t; text_is = refl; is_item = fits; short = tt; whole = refl })
-    (λ e. one_of tag 8 (Index n) (items.Text n) item _ e (λ t. record { tag_is = t; text_is = refl; is_item = fits; short = tt; whole = refl })
-    (λ e. one_of tag 16 (Index n) (items.MethodType n) item _ e (λ t. record { tag_is = t; text_is = refl; is_item = fits; short = tt; whole = refl })
+    one_of tag CLASS (Index n) (items.Class n) item _ e (λ t. record { tag_is = t; text_is = refl; is_item = fits; short = tt; whole = refl })
+    (λ e. one_of tag STRING (Index n) (items.Text n) item _ e (λ t. record { tag_is = t; text_is = refl; is_item = fits; short = tt; whole = refl })
+    (λ e. one_of tag METHOD_TYPE (Index n) (items.MethodType n) item _ e (λ t. record { tag_is = t; text_is = refl; is_item = fits; short = tt; whole = refl })
     (λ e. none_is tag (Index n) item e)))
 item_of_makes tag (Word n) item fits e =
-    one_of tag 3 (Word n) (items.Integer (cast_signed w32 n)) item _ e (λ t. record { tag_is = t; text_is = ap (λ (k : ℕ). 3 ∷ u4 k) (of_z-to_z w32 n fits); is_item = read_sfits w32 n; short = tt; whole = refl })
-    (λ e. one_of tag 4 (Word n) (items.Float n) item _ e (λ t. record { tag_is = t; text_is = refl; is_item = fits; short = tt; whole = refl })
+    one_of tag INTEGER (Word n) (items.Integer (cast_signed w32 n)) item _ e (λ t. record { tag_is = t; text_is = ap (λ (k : ℕ). INTEGER ∷ u4 k) (of_z-to_z w32 n fits); is_item = read_sfits w32 n; short = tt; whole = refl })
+    (λ e. one_of tag FLOAT (Word n) (items.Float n) item _ e (λ t. record { tag_is = t; text_is = refl; is_item = fits; short = tt; whole = refl })
     (λ e. none_is tag (Word n) item e))
 item_of_makes tag (Words high low) item fits e =
     let n = high * 2 ^ 32 + low in
     let lt : n < 2 ^ 64 = omega (arith, fits.0, fits.1) in
-    one_of tag 5 (Words high low) (items.Long (cast_signed w64 n)) item _ e (λ t. record { tag_is = t; text_is = ap (λ (k : ℕ). 5 ∷ u8 k) (of_z-to_z w64 n lt) ∙ ap (λ (r : List ℕ). 5 ∷ r) (u8_halves high low fits.1); is_item = read_sfits w64 n; short = tt; whole = refl })
-    (λ e. one_of tag 6 (Words high low) (items.Double n) item _ e (λ t. record { tag_is = t; text_is = ap (λ (r : List ℕ). 6 ∷ r) (u8_halves high low fits.1); is_item = lt; short = tt; whole = refl })
+    one_of tag LONG (Words high low) (items.Long (cast_signed w64 n)) item _ e (λ t. record { tag_is = t; text_is = ap (λ (k : ℕ). LONG ∷ u8 k) (of_z-to_z w64 n lt) ∙ ap (λ (r : List ℕ). LONG ∷ r) (u8_halves high low fits.1); is_item = read_sfits w64 n; short = tt; whole = refl })
+    (λ e. one_of tag DOUBLE (Words high low) (items.Double n) item _ e (λ t. record { tag_is = t; text_is = ap (λ (r : List ℕ). DOUBLE ∷ r) (u8_halves high low fits.1); is_item = lt; short = tt; whole = refl })
     (λ e. none_is tag (Words high low) item e))
 item_of_makes tag (Pair a b) item fits e =
-    one_of tag 9 (Pair a b) (items.Field a b) item _ e (λ t. record { tag_is = t; text_is = refl; is_item = fits; short = tt; whole = refl })
-    (λ e. one_of tag 10 (Pair a b) (items.Method a b) item _ e (λ t. record { tag_is = t; text_is = refl; is_item = fits; short = tt; whole = refl })
-    (λ e. one_of tag 11 (Pair a b) (items.InterfaceMethod a b) item _ e (λ t. record { tag_is = t; text_is = refl; is_item = fits; short = tt; whole = refl })
-    (λ e. one_of tag 12 (Pair a b) (items.NameAndType a b) item _ e (λ t. record { tag_is = t; text_is = refl; is_item = fits; short = tt; whole = refl })
-    (λ e. one_of tag 18 (Pair a b) (items.InvokeDynamic a b) item _ e (λ t. record { tag_is = t; text_is = refl; is_item = fits; short = tt; whole = refl })
+    one_of tag FIELDREF (Pair a b) (items.Field a b) item _ e (λ t. record { tag_is = t; text_is = refl; is_item = fits; short = tt; whole = refl })
+    (λ e. one_of tag METHODREF (Pair a b) (items.Method a b) item _ e (λ t. record { tag_is = t; text_is = refl; is_item = fits; short = tt; whole = refl })
+    (λ e. one_of tag INTERFACE_METHODREF (Pair a b) (items.InterfaceMethod a b) item _ e (λ t. record { tag_is = t; text_is = refl; is_item = fits; short = tt; whole = refl })
+    (λ e. one_of tag NAME_AND_TYPE (Pair a b) (items.NameAndType a b) item _ e (λ t. record { tag_is = t; text_is = refl; is_item = fits; short = tt; whole = refl })
+    (λ e. one_of tag INVOKE_DYNAMIC (Pair a b) (items.InvokeDynamic a b) item _ e (λ t. record { tag_is = t; text_is = refl; is_item = fits; short = tt; whole = refl })
     (λ e. none_is tag (Pair a b) item e)))))
 item_of_makes tag (Handle kind member) item fits e =
-    one_of tag 15 (Handle kind member) (items.MethodHandle kind member) item _ e (λ t. record { tag_is = t; text_is = refl; is_item = fits; short = tt; whole = refl })
+    one_of tag METHOD_HANDLE (Handle kind member) (items.MethodHandle kind member) item _ e (λ t. record { tag_is = t; text_is = refl; is_item = fits; short = tt; whole = refl })
     (λ e. none_is tag (Handle kind member) item e)

@@ -5,6 +5,7 @@ use Rattle.std.specs.Int.{w32, w64, cast_unsigned}
 use Rattle.std.specs.List.{flat_map, AllByRecursion}
 use Rattle.jv_bytes.specs.Numbers.{number_text}
 use Rattle.jv_bytes.specs.Utf8.{IsText}
+use Rattle.jv_table.specs.declared.tags.TheConstants.{UTF8, INTEGER, FLOAT, LONG, DOUBLE, CLASS, STRING, FIELDREF, METHODREF, INTERFACE_METHODREF, NAME_AND_TYPE, METHOD_HANDLE, METHOD_TYPE, INVOKE_DYNAMIC}
 use Rattle.jv_pool.specs.declared.item.PoolItem.{PoolItem}
 use Rattle.jv_pool.specs.declared.item.PoolItem.TheVariants.{Utf8, Integer, Float, Long, Double, Class, Text, Field, Method, InterfaceMethod, NameAndType, MethodHandle, MethodType, InvokeDynamic, Hole}
 use Rattle.jv_pool.specs.Lookups.{names, is_utf8, is_class, is_name_and_type}
@@ -25,20 +26,20 @@ u8 n = number_text 4 (n / 2 ^ 32) ++ number_text 4 (n % 2 ^ 32)
 -- the text of an item: its tag (JVMS table 4.4-A) and its content. The second index of a long or double
 -- has no text.
 abbrev pub item_text : PoolItem → List ℕ
-item_text (Utf8 bytes) = 1 ∷ u2 (length bytes) ++ bytes
-item_text (Integer n) = 3 ∷ u4 (cast_unsigned w32 n)
-item_text (Float bits) = 4 ∷ u4 bits
-item_text (Long n) = 5 ∷ u8 (cast_unsigned w64 n)
-item_text (Double bits) = 6 ∷ u8 bits
-item_text (Class name) = 7 ∷ u2 name
-item_text (Text text) = 8 ∷ u2 text
-item_text (Field class pair) = 9 ∷ u2 class ++ u2 pair
-item_text (Method class pair) = 10 ∷ u2 class ++ u2 pair
-item_text (InterfaceMethod class pair) = 11 ∷ u2 class ++ u2 pair
-item_text (NameAndType name desc) = 12 ∷ u2 name ++ u2 desc
-item_text (MethodHandle kind member) = 15 ∷ kind ∷ u2 member
-item_text (MethodType desc) = 16 ∷ u2 desc
-item_text (InvokeDynamic bootstrap pair) = 18 ∷ u2 bootstrap ++ u2 pair
+item_text (Utf8 bytes) = UTF8 ∷ u2 (length bytes) ++ bytes
+item_text (Integer n) = INTEGER ∷ u4 (cast_unsigned w32 n)
+item_text (Float bits) = FLOAT ∷ u4 bits
+item_text (Long n) = LONG ∷ u8 (cast_unsigned w64 n)
+item_text (Double bits) = DOUBLE ∷ u8 bits
+item_text (Class name) = CLASS ∷ u2 name
+item_text (Text text) = STRING ∷ u2 text
+item_text (Field class pair) = FIELDREF ∷ u2 class ++ u2 pair
+item_text (Method class pair) = METHODREF ∷ u2 class ++ u2 pair
+item_text (InterfaceMethod class pair) = INTERFACE_METHODREF ∷ u2 class ++ u2 pair
+item_text (NameAndType name desc) = NAME_AND_TYPE ∷ u2 name ++ u2 desc
+item_text (MethodHandle kind member) = METHOD_HANDLE ∷ kind ∷ u2 member
+item_text (MethodType desc) = METHOD_TYPE ∷ u2 desc
+item_text (InvokeDynamic bootstrap pair) = INVOKE_DYNAMIC ∷ u2 bootstrap ++ u2 pair
 item_text Hole = []
 
 abbrev pub pool_text : List PoolItem → List ℕ

@@ -5,6 +5,7 @@ ghost use Rattle.jv_pool.specs.Steps.PoolReading.{fields_at, item_of};
 use crate::item::PoolItem;
 use jv_bytes::Cursor;
 use jv_read::{ReadFault, read_u1, read_u2, read_u4};
+use jv_table::tags;
 
 /// The numbers behind the tag of an item (JVMS 4.4), by their widths.
 #[derive(Clone, Copy, Debug, PartialEq, Eq)]
@@ -49,19 +50,27 @@ pub fn item_of(tag: u8, fields: Fields) -> Option<PoolItem>
     ensures { result ≡ item_of tag fields }
 {
     match (tag, fields) {
-        (3, Fields::Word(bits)) => Some(PoolItem::Integer(bits.cast_signed())),
-        (4, Fields::Word(bits)) => Some(PoolItem::Float(bits)),
-        (5, Fields::Words(high, low)) => Some(PoolItem::Long(bits_of(high, low).cast_signed())),
-        (6, Fields::Words(high, low)) => Some(PoolItem::Double(bits_of(high, low))),
-        (7, Fields::Index(name)) => Some(PoolItem::Class(name)),
-        (8, Fields::Index(text)) => Some(PoolItem::Text(text)),
-        (9, Fields::Pair(class, pair)) => Some(PoolItem::Field(class, pair)),
-        (10, Fields::Pair(class, pair)) => Some(PoolItem::Method(class, pair)),
-        (11, Fields::Pair(class, pair)) => Some(PoolItem::InterfaceMethod(class, pair)),
-        (12, Fields::Pair(name, desc)) => Some(PoolItem::NameAndType(name, desc)),
-        (15, Fields::Handle(kind, member)) => Some(PoolItem::MethodHandle(kind, member)),
-        (16, Fields::Index(desc)) => Some(PoolItem::MethodType(desc)),
-        (18, Fields::Pair(bootstrap, pair)) => Some(PoolItem::InvokeDynamic(bootstrap, pair)),
+        (tags::INTEGER, Fields::Word(bits)) => Some(PoolItem::Integer(bits.cast_signed())),
+        (tags::FLOAT, Fields::Word(bits)) => Some(PoolItem::Float(bits)),
+        (tags::LONG, Fields::Words(high, low)) => Some(PoolItem::Long(bits_of(
+            high, low,
+        ).cast_signed())),
+        (tags::DOUBLE, Fields::Words(high, low)) => Some(PoolItem::Double(bits_of(high, low))),
+        (tags::CLASS, Fields::Index(name)) => Some(PoolItem::Class(name)),
+        (tags::STRING, Fields::Index(text)) => Some(PoolItem::Text(text)),
+        (tags::FIELDREF, Fields::Pair(class, pair)) => Some(PoolItem::Field(class, pair)),
+        (tags::METHODREF, Fields::Pair(class, pair)) => Some(PoolItem::Method(class, pair)),
+        (tags::INTERFACE_METHODREF, Fields::Pair(class, pair)) => Some(PoolItem::InterfaceMethod(
+            class, pair,
+        )),
+        (tags::NAME_AND_TYPE, Fields::Pair(name, desc)) => Some(PoolItem::NameAndType(name, desc)),
+        (tags::METHOD_HANDLE, Fields::Handle(kind, member)) => Some(PoolItem::MethodHandle(
+            kind, member,
+        )),
+        (tags::METHOD_TYPE, Fields::Index(desc)) => Some(PoolItem::MethodType(desc)),
+        (tags::INVOKE_DYNAMIC, Fields::Pair(bootstrap, pair)) => Some(PoolItem::InvokeDynamic(
+            bootstrap, pair,
+        )),
         _ => None,
     }
 }

@@ -12,7 +12,7 @@ use crate::pool::Pool;
 use crate::text::is_spelled;
 use jv_bytes::Cursor;
 use jv_read::{ReadFault, read_bytes, read_u1, read_u2};
-use jv_table::pool_tag;
+use jv_table::{pool_tag, tags};
 use jv_types::Seq;
 use std::alloc::Global;
 
@@ -39,7 +39,7 @@ fn read_content(
     ensures { Gives (λ x. x) result cursor.new (content_at tag fields cursor.old) }
 {
     match (tag, fields) {
-        (1, Fields::Index(len)) => read_text(alloc, cursor, len),
+        (tags::UTF8, Fields::Index(len)) => read_text(alloc, cursor, len),
         _ => item_of(tag, fields).ok_or(ReadFault::Bad),
     }
 }

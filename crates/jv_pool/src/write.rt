@@ -1,11 +1,13 @@
 ghost use Rattle.std.specs.Prelude.{◌≡◌, ◌<◌, ◌+◌, ◌/◌, ◌%◌, ◌^◌, ◌∷◌, ◌++◌, length, Err, OnOk};
 ghost use Rattle.std.specs.List.{flat_map, AllByRecursion};
+ghost use Rattle.jv_table.specs.declared.tags.TheConstants.{UTF8, METHOD_HANDLE};
 ghost use Rattle.jv_pool.specs.PoolText.{u2, u4, u8, item_text, pool_text, IsShort};
 
 use crate::fault::WriteRefusal;
 use crate::item::PoolItem;
 use crate::pool::Pool;
 use jv_bytes::Writer;
+use jv_table::tags;
 use std::alloc::AllocError;
 
 /// Writes a tag and an index.
@@ -44,21 +46,21 @@ fn put_words(writer: &mut Writer, tag: u8, number: u64) -> Result<(), AllocError
 
 /// Writes a method handle.
 fn put_handle(writer: &mut Writer, kind: u8, member: u16) -> Result<(), AllocError>
-    ensures { OnOk result (writer.new ≡ writer.old ++ (15 ∷ kind ∷ u2 member)) }
+    ensures { OnOk result (writer.new ≡ writer.old ++ (METHOD_HANDLE ∷ kind ∷ u2 member)) }
 {
-    writer.put_u1(15)?;
+    writer.put_u1(tags::METHOD_HANDLE)?;
     put_index(writer, kind, member)
 }
 
 /// Writes a text. One of more than 65535 bytes is refused.
 fn put_text(writer: &mut Writer, text: &[u8]) -> Result<(), WriteRefusal>
-    ensures ok { OnOk result ((length text.now < 2 ^ 16) × (writer.new ≡ writer.old ++ (1 ∷ u2 (length text.now) ++ text.now))) }
+    ensures ok { OnOk result ((length text.now < 2 ^ 16) × (writer.new ≡ writer.old ++ (UTF8 ∷ u2 (length text.now) ++ text.now))) }
     ensures long { result ≡ Err WriteRefusal.TooLong → length text.now < 2 ^ 16 → ⊥ }
 {
     if text.len() > 65535 {
         return Err(WriteRefusal::TooLong);
     }
-    put_index(writer, 1, text.len() as u16)?;
+    put_index(writer, tags::UTF8, text.len() as u16)?;
     writer.bytes(text)?;
     Ok(())
 }
@@ -70,19 +72,29 @@ fn put_item(writer: &mut Writer, item: &PoolItem) -> Result<(), WriteRefusal>
 {
     match item {
         PoolItem::Utf8(text) => put_text(writer, text.as_slice())?,
-        PoolItem::Integer(number) => put_word(writer, 3, number.cast_unsigned())?,
-        PoolItem::Float(bits) => put_word(writer, 4, *bits)?,
-        PoolItem::Long(number) => put_words(writer, 5, number.cast_unsigned())?,
-        PoolItem::Double(bits) => put_words(writer, 6, *bits)?,
-        PoolItem::Class(name) => put_index(writer, 7, *name)?,
-        PoolItem::Text(text) => put_index(writer, 8, *text)?,
-        PoolItem::Field(class, pair) => put_pair(writer, 9, *class, *pair)?,
-        PoolItem::Method(class, pair) => put_pair(writer, 10, *class, *pair)?,
-        PoolItem::InterfaceMethod(class, pair) => put_pair(writer, 11, *class, *pair)?,
-        PoolItem::NameAndType(name, desc) => put_pair(writer, 12, *name, *desc)?,
+        PoolItem::Integer(number) => put_word(writer, tags::INTEGER, number.cast_unsigned())?,
+        PoolItem::Float(bits) => put_word(writer, tags::FLOAT, *bits)?,
+        PoolItem::Long(number) => put_words(writer, tags::LONG, number.cast_unsigned())?,
+        PoolItem::Double(bits) => put_words(writer, tags::DOUBLE, *bits)?,
+        PoolItem::Class(name) => put_index(writer, tags::CLASS, *name)?,
+        PoolItem::Text(text) => put_index(writer, tags::STRING, *text)?,
+        PoolItem::Field(class, pair) => put_pair(writer, tags::FIELDREF, *class, *pair)?,
+        PoolItem::Method(class, pair) => put_pair(writer, tags::METHODREF, *class, *pair)?,
+        PoolItem::InterfaceMethod(class, pair) => put_pair(
+            writer,
+            tags::INTERFACE_METHODREF,
+            *class,
+            *pair,
+        )?,
+        PoolItem::NameAndType(name, desc) => put_pair(writer, tags::NAME_AND_TYPE, *name, *desc)?,
         PoolItem::MethodHandle(kind, member) => put_handle(writer, *kind, *member)?,
-        PoolItem::MethodType(desc) => put_index(writer, 16, *desc)?,
-        PoolItem::InvokeDynamic(bootstrap, pair) => put_pair(writer, 18, *bootstrap, *pair)?,
+        PoolItem::MethodType(desc) => put_index(writer, tags::METHOD_TYPE, *desc)?,
+        PoolItem::InvokeDynamic(bootstrap, pair) => put_pair(
+            writer,
+            tags::INVOKE_DYNAMIC,
+            *bootstrap,
+            *pair,
+        )?,
         PoolItem::Hole => {}
     }
     Ok(())

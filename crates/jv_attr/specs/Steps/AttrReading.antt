@@ -2,6 +2,7 @@
 use Rattle.std.specs.Prelude.{ℕ, ◌-◌, List, [], length, count_by, Bool, true, false, ◌||◌, ◌==◌, nat_le, nat_lt, Option, Some, None, if◌then◌else◌}
 use Rattle.jv_table.specs.declared.class_tables.FrameGroup.{FrameGroup}
 use Rattle.jv_table.specs.declared.class_tables.FrameGroup.TheVariants.{Same, SameOne, SameOneExtended, Chop, SameExtended, Append, Full}
+use Rattle.jv_table.specs.declared.frame_tags.TheConstants.{SAME_EXTENDED}
 use Rattle.jv_types.specs.declared.raw_handler.RawHandler.{RawHandler}
 use Rattle.jv_pool.specs.declared.item.PoolItem.{PoolItem}
 use Rattle.jv_pool.specs.Lookups.{text_at}
@@ -61,7 +62,7 @@ delta_at kind bytes = do
 unfoldable pub append_at : List PoolItem → ℕ → List ℕ → Option (MapFrame × List ℕ)
 append_at pool kind bytes = do
   delta ← u2_at bytes
-  locals ← types_at pool (kind - 251) delta.1
+  locals ← types_at pool (kind - SAME_EXTENDED) delta.1
   Some (record { kind = kind; delta = delta.0; locals = locals.0; stack = [] }, locals.1)
 
 unfoldable pub full_at : List PoolItem → ℕ → List ℕ → Option (MapFrame × List ℕ)

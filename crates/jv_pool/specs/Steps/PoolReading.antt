@@ -6,6 +6,7 @@ use Rattle.std.specs.Ordering.{nat_cmp}
 use Rattle.std.specs.Cmp.Lexicographic.{pointwise}
 use Rattle.jv_table.specs.Rows.{row_of}
 use Rattle.jv_table.specs.ClassRows.{pool_tag_rows}
+use Rattle.jv_table.specs.declared.tags.TheConstants.{UTF8, INTEGER, FLOAT, LONG, DOUBLE, CLASS, STRING, FIELDREF, METHODREF, INTERFACE_METHODREF, NAME_AND_TYPE, METHOD_HANDLE, METHOD_TYPE, INVOKE_DYNAMIC}
 use Rattle.jv_pool.specs.declared.item.PoolItem.{PoolItem}
 use Rattle.jv_pool.specs.declared.item.PoolItem.TheVariants as items
 use Rattle.jv_pool.specs.declared.fields.Fields.{Fields}
@@ -95,23 +96,23 @@ fields_at parts bytes =
 -- the item of a tag with these numbers, but for a text
 unfoldable pub item_of : ℕ → Fields → Option PoolItem
 item_of tag (Index n) =
-    if tag == 7 then Some (items.Class n) else
-    (if tag == 8 then Some (items.Text n) else
-    (if tag == 16 then Some (items.MethodType n) else None))
+    if tag == CLASS then Some (items.Class n) else
+    (if tag == STRING then Some (items.Text n) else
+    (if tag == METHOD_TYPE then Some (items.MethodType n) else None))
 item_of tag (Word n) =
-    if tag == 3 then Some (items.Integer (cast_signed w32 n)) else
-    (if tag == 4 then Some (items.Float n) else None)
+    if tag == INTEGER then Some (items.Integer (cast_signed w32 n)) else
+    (if tag == FLOAT then Some (items.Float n) else None)
 item_of tag (Words high low) =
-    if tag == 5 then Some (items.Long (cast_signed w64 (high * 2 ^ 32 + low))) else
-    (if tag == 6 then Some (items.Double (high * 2 ^ 32 + low)) else None)
+    if tag == LONG then Some (items.Long (cast_signed w64 (high * 2 ^ 32 + low))) else
+    (if tag == DOUBLE then Some (items.Double (high * 2 ^ 32 + low)) else None)
 item_of tag (Pair a b) =
-    if tag == 9 then Some (items.Field a b) else
-    (if tag == 10 then Some (items.Method a b) else
-    (if tag == 11 then Some (items.InterfaceMethod a b) else
-    (if tag == 12 then Some (items.NameAndType a b) else
-    (if tag == 18 then Some (items.InvokeDynamic a b) else None))))
+    if tag == FIELDREF then Some (items.Field a b) else
+    (if tag == METHODREF then Some (items.Method a b) else
+    (if tag == INTERFACE_METHODREF then Some (items.InterfaceMethod a b) else
+    (if tag == NAME_AND_TYPE then Some (items.NameAndType a b) else
+    (if tag == INVOKE_DYNAMIC then Some (items.InvokeDynamic a b) else None))))
 item_of tag (Handle kind member) =
-    if tag == 15 then Some (items.MethodHandle kind member) else None
+    if tag == METHOD_HANDLE then Some (items.MethodHandle kind member) else None
 
 -- a text of as many bytes
 unfoldable pub spelled_at : ℕ → List ℕ → Option (PoolItem × List ℕ)
@@ -126,7 +127,7 @@ kept_at tag fields bytes = do
   Some (item, bytes)
 
 unfoldable pub content_at : ℕ → Fields → List ℕ → Option (PoolItem × List ℕ)
-content_at tag (Index n) bytes = if tag == 1 then spelled_at n bytes else kept_at tag (Index n) bytes
+content_at tag (Index n) bytes = if tag == UTF8 then spelled_at n bytes else kept_at tag (Index n) bytes
 content_at tag (Word n) bytes = kept_at tag (Word n) bytes
 content_at tag (Words high low) bytes = kept_at tag (Words high low) bytes
 content_at tag (Pair a b) bytes = kept_at tag (Pair a b) bytes
