@@ -1,5 +1,6 @@
 -- How a descriptor begins: what its first byte is, and where a class name ends.
-use Rattle.std.proofs.Common.{◌≡◌, ◌≢◌, ℕ, ◌+◌, ◌<◌, ◌⊎◌, inl, inr, Bool, true, false, cond, eqb, not, ◌&&◌, List, [], ◌∷◌, ◌++◌, length, get_or, take, drop, Some, None, Result, Err, refl, sym, ap, subst, ◌∙◌, arith}
+use Rattle.std.proofs.Common.{◌≡◌, ◌≢◌, ℕ, ◌+◌, ◌<◌, ◌⊎◌, inl, inr, Bool, true, false, cond, eqb, not, ◌&&◌, List, [], ◌∷◌, ◌++◌, length, get_or, take, drop, Option, Some, None, Result, Err, refl, sym, ap, subst, ◌∙◌, arith}
+use Rattle.std.specs.Prelude.{◌==◌, if◌then◌else◌}
 use Rattle.std.proofs.lemmas.Bool.{and_parts, and_from}
 use Rattle.std.proofs.lemmas.Bool.Decides.{nat_tests}
 use Rattle.std.proofs.lemmas.List.{drop_more, take-append-drop}
@@ -12,9 +13,14 @@ use Rattle.jv_types.specs.declared.desc.RefType.TheOpen as layer
 use Rattle.jv_desc.specs.declared.fault.BadDesc.{BadDesc}
 use Rattle.jv_desc.specs.declared.fault.BadDesc.TheVariants.{Bad}
 use Rattle.jv_desc.specs.Texts.{prim_letter}
-use Rattle.jv_desc.specs.Reading.{prim_of, no_semicolon}
+use Rattle.jv_desc.specs.Reading.{no_semicolon}
 
 -- ---- letters
+
+-- the primitive type of a letter
+abbrev pub prim_of : ℕ → Option PrimType
+prim_of letter =
+    if letter == 90 then Some Boolean else (if letter == 67 then Some Char else (if letter == 70 then Some Float else (if letter == 68 then Some Double else (if letter == 66 then Some Byte else (if letter == 83 then Some Short else (if letter == 73 then Some Int else (if letter == 74 then Some Long else None)))))))
 
 -- the letter of a type is read as the type
 pub prim_of-letter : (prim : PrimType) → prim_of (prim_letter prim) ≡ Some prim

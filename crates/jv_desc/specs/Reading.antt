@@ -1,16 +1,9 @@
 -- What a reader finds at the front of bytes.
-use Rattle.std.specs.Prelude.{◌≡◌, ℕ, Bool, true, ◌&&◌, not, ◌==◌, if◌then◌else◌, List, [], ◌∷◌, ◌++◌, Option, Some, None}
+use Rattle.std.specs.Prelude.{◌≡◌, ℕ, Bool, true, ◌&&◌, not, ◌==◌, List, [], ◌∷◌, ◌++◌}
 use Rattle.std.specs.List.{flat_map, AllByRecursion}
-use Rattle.jv_types.specs.declared.desc.PrimType.{PrimType}
-use Rattle.jv_types.specs.declared.desc.PrimType.TheVariants.{Boolean, Char, Float, Double, Byte, Short, Int, Long}
 use Rattle.jv_types.specs.declared.desc.RefType.{RefType}
 use Rattle.jv_types.specs.declared.desc.Desc as desc
 use Rattle.jv_desc.specs.Texts.{IsRef, ref_text, IsDesc, desc_text}
-
--- the primitive type of a letter
-abbrev pub prim_of : ℕ → Option PrimType
-prim_of letter =
-    if letter == 90 then Some Boolean else (if letter == 67 then Some Char else (if letter == 70 then Some Float else (if letter == 68 then Some Double else (if letter == 66 then Some Byte else (if letter == 83 then Some Short else (if letter == 73 then Some Int else (if letter == 74 then Some Long else None)))))))
 
 -- no byte is `;`
 abbrev pub no_semicolon : List ℕ → Bool

@@ -3,29 +3,13 @@ ghost use Rattle.jv_types.specs.NameForms.{is_class_name};
 ghost use Rattle.jv_types.specs.declared.desc.PrimType.{PrimType};
 ghost use Rattle.jv_types.specs.declared.desc.RefType.{RefType as RefTypes};
 ghost use Rattle.jv_desc.specs.Texts.{prim_letter};
-ghost use Rattle.jv_desc.specs.Reading.{prim_of, no_semicolon, ReadsRef};
+ghost use Rattle.jv_desc.specs.Reading.{no_semicolon, ReadsRef};
 
 use crate::fault::BadDesc;
+use crate::letters::prim_of;
 use jv_types::{Name, Prim, RefType, is_class_name};
 use sqlite_items::Boxed;
 use std::alloc::Global;
-
-/// The primitive type of a letter.
-fn prim_of(letter: u8) -> Option<Prim>
-    ensures { result ≡ prim_of letter }
-{
-    match letter {
-        b'Z' => Some(Prim::Boolean),
-        b'C' => Some(Prim::Char),
-        b'F' => Some(Prim::Float),
-        b'D' => Some(Prim::Double),
-        b'B' => Some(Prim::Byte),
-        b'S' => Some(Prim::Short),
-        b'I' => Some(Prim::Int),
-        b'J' => Some(Prim::Long),
-        _ => None,
-    }
-}
 
 /// The primitive type whose letter stands in front, and the bytes after it.
 pub fn prim_at(bytes: &[u8]) -> Option<(Prim, &[u8])>

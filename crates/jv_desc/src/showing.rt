@@ -1,25 +1,10 @@
 ghost use Rattle.std.specs.Prelude.{◌≡◌, ◌∷◌, [], ◌++◌, ℕ, List, IfOk, OnOk};
 ghost use Rattle.std.specs.List.{flat_map};
-ghost use Rattle.jv_desc.specs.Texts.{prim_letter, ref_text, desc_text, result_text, method_text};
+ghost use Rattle.jv_desc.specs.Texts.{ref_text, desc_text, result_text, method_text};
 
-use jv_types::{Desc, MethodDesc, Prim, RefType};
+use crate::letters::letter_of;
+use jv_types::{Desc, MethodDesc, RefType};
 use std::alloc::{AllocError, Global};
-
-/// The letter of a primitive type.
-fn letter_of(prim: Prim) -> u8
-    ensures { result ≡ prim_letter prim }
-{
-    match prim {
-        Prim::Boolean => b'Z',
-        Prim::Char => b'C',
-        Prim::Float => b'F',
-        Prim::Double => b'D',
-        Prim::Byte => b'B',
-        Prim::Short => b'S',
-        Prim::Int => b'I',
-        Prim::Long => b'J',
-    }
-}
 
 /// Adds the text of a class at the end.
 fn put_class(text: &mut Vec<u8>, name: &[u8]) -> Result<(), AllocError>

@@ -8,7 +8,7 @@ use Rattle.jv_types.specs.declared.frames.VType as types
 use Rattle.jv_insn.specs.Kinds.{is_reference, HoldsCell, HoldsCells, WordKind, Word, Reference, cell_words, is_wide, kind_of, kinds_after}
 
 -- the kind of a reference
-reference_kind : (second : Bool) (type : VType) → is_reference type ≡ true → kind_of second type ≡ Reference
+pub reference_kind : (second : Bool) (type : VType) → is_reference type ≡ true → kind_of second type ≡ Reference
 reference_kind second types.Top e = absurd cc
 reference_kind second types.Integer e = absurd cc
 reference_kind second types.Float e = absurd cc

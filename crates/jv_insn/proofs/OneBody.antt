@@ -11,7 +11,6 @@ use Rattle.jv_table.specs.declared.code_tables.Form.TheVariants as forms
 use Rattle.jv_types.specs.Bodies.{rises_from}
 use Rattle.jv_types.specs.declared.raw_handler.RawHandler.{RawHandler}
 use Rattle.jv_types.specs.declared.desc.PrimType.{PrimType}
-use Rattle.jv_types.specs.declared.desc.PrimType.TheVariants.{Boolean, Char, Float, Double, Byte, Short, Int, Long}
 use Rattle.jv_types.specs.declared.desc.RefType.{RefType}
 use Rattle.jv_types.specs.declared.instruction.Const.{Const}
 use Rattle.jv_types.specs.declared.instruction.Const.TheVariants as consts
@@ -21,7 +20,6 @@ use Rattle.jv_types.specs.declared.instruction.Insn.{Insn}
 use Rattle.jv_types.specs.declared.body.Handler.{Handler}
 use Rattle.jv_types.specs.declared.body.Body.{Body}
 use Rattle.jv_desc.specs.Texts.{prim_letter}
-use Rattle.jv_desc.specs.Reading.{prim_of}
 use Rattle.jv_pool.specs.declared.item.PoolItem.{PoolItem}
 use Rattle.jv_pool.specs.declared.item.PoolItem.TheVariants as items
 use Rattle.jv_pool.specs.Lookups.{item_at, class_name_in}
@@ -32,6 +30,7 @@ use Rattle.jv_insn.specs.Effects.{op_row}
 use Rattle.jv_names.specs.Naming.{NamesType}
 use Rattle.jv_insn.specs.Meanings.{NamesConst, NamesLoad, NamesArg, NamesOperands, LeadsTo, LeadsCase, IsInsn}
 use Rattle.jv_insn.specs.Decoding.{IsRow, Catches, IsHandler, Decodes}
+use Rattle.jv_desc.proofs.Fronts.{same_letter}
 use Rattle.jv_names.proofs.NamedOnce.{given_twice, one_type, one_class, one_field_ref, one_method_ref}
 use Rattle.jv_insn.proofs.Leading.{one_target, one_case, zip_one}
 use Rattle.jv_insn.proofs.Laying.{lays_agree}
@@ -112,20 +111,8 @@ named_one forms.Method pool op index a b h k = h.1 ∙ ap args.Method (one_metho
 named_one _ pool op index a b h k = absurd h
 
 -- letters tell types apart
-prim_back : (prim : PrimType) → prim_of (prim_letter prim) ≡ Some prim
-prim_back Boolean = refl
-prim_back Char = refl
-prim_back Float = refl
-prim_back Double = refl
-prim_back Byte = refl
-prim_back Short = refl
-prim_back Int = refl
-prim_back Long = refl
-
 one_prim : (letter : Option ℕ) (p q : PrimType) → letter ≡ Some (prim_letter p) → letter ≡ Some (prim_letter q) → p ≡ q
-one_prim letter p q e f =
-    let same = given_twice letter (prim_letter p) (prim_letter q) e f in
-    given_twice (prim_of (prim_letter q)) p q (ap prim_of (sym same) ∙ prim_back p) (prim_back q)
+one_prim letter p q e f = same_letter p q (given_twice letter (prim_letter p) (prim_letter q) e f)
 
 one_arg : {I : Type 0} (pool : List PoolItem) (rows : List (ℕ × I)) (pc op : ℕ) (form : Form) (operands : Operands) (a b : Arg) → NamesOperands pool rows pc op form operands a → NamesOperands pool rows pc op form operands b → a ≡ b
 one_arg pool rows pc op form Nothing a b h k = h ∙ sym k

@@ -4,7 +4,6 @@ ghost use Rattle.jv_table.specs.Rows.{row_of};
 ghost use Rattle.jv_table.specs.CodeRows.{newarray_rows};
 ghost use Rattle.jv_table.specs.declared.code_tables.Form.TheVariants as forms;
 ghost use Rattle.jv_desc.specs.Texts.{prim_letter, ref_dims};
-ghost use Rattle.jv_desc.specs.Reading.{prim_of};
 ghost use Rattle.jv_insn.specs.Meanings.{FitsOp, MayCall, IsCalled, NamesLoad, NamesArg, NamesCalled, NamesSite, NamesPrim, NamesMulti, NamesJump, NamesTable, NamesLookup, NamesOperands};
 ghost use Rattle.jv_insn.specs.Steps.Rows.{AreRows};
 ghost use Rattle.jv_names.specs.Finding.{Finds};
@@ -13,7 +12,7 @@ ghost use Rattle.jv_insn.specs.Steps.Finding.{FindsSome};
 use crate::constants::const_at;
 use crate::places::{cases_at, target_at, targets_at};
 use crate::written::{Operands, Written};
-use jv_desc::arg_words;
+use jv_desc::{arg_words, prim_of};
 use jv_names::{field_at, method_at, type_at};
 use jv_pool::{Pool, PoolItem};
 use jv_read::ReadFault;
@@ -44,23 +43,6 @@ fn fits_op(op: u8, of: &RefType) -> bool
         ops::NEW => !has_dims(of, 1),
         ops::ANEWARRAY => !has_dims(of, 255),
         _ => true,
-    }
-}
-
-/// The primitive type of a letter in descriptors.
-fn prim_of(letter: u8) -> Option<Prim>
-    ensures { result ≡ prim_of letter }
-{
-    match letter {
-        b'Z' => Some(Prim::Boolean),
-        b'C' => Some(Prim::Char),
-        b'F' => Some(Prim::Float),
-        b'D' => Some(Prim::Double),
-        b'B' => Some(Prim::Byte),
-        b'S' => Some(Prim::Short),
-        b'I' => Some(Prim::Int),
-        b'J' => Some(Prim::Long),
-        _ => None,
     }
 }
 
