@@ -12,7 +12,7 @@ use Rattle.jv_attr.specs.declared.attr.CodeAttr.{CodeAttr}
 use Rattle.std.specs.declared.convert.Infallible.{Infallible as NoCode}
 use Rattle.jv_attr.specs.FrameText.{group_of, HasFewParts, HasFewTypes, AreFewFrames}
 use Rattle.jv_attr.specs.AttrText.{HasFewWith, IsInnerFew, IsNoCode, IsFewCode, HasFew}
-use Rattle.jv_attr.specs.Few.{has_few_parts, has_few_types, are_few_frames, is_body_few, is_no_few, is_inner_few, is_few_code, has_few}
+use Rattle.jv_attr.specs.Steps.Few.{has_few_parts, has_few_types, are_few_frames, is_body_few, is_no_few, is_inner_few, is_few_code, has_few}
 
 -- ---- of each element
 

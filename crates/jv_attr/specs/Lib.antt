@@ -1,4 +1,3 @@
 pub mod FrameText
 pub mod AttrText
-pub mod Few
 pub mod Steps

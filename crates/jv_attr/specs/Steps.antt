@@ -1,2 +1,3 @@
 -- What only private functions say.
 pub mod AttrReading
+pub mod Few

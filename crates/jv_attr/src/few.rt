@@ -1,7 +1,7 @@
 ghost use Rattle.std.specs.Prelude.{◌≡◌, ◌↔◌, IsTrue};
 ghost use Rattle.std.specs.List.{list_all};
 ghost use Rattle.jv_attr.specs.AttrText.{HasFew};
-ghost use Rattle.jv_attr.specs.Few.{has_few_parts, has_few_types, are_few_frames, is_inner_few, is_few_code, has_few};
+ghost use Rattle.jv_attr.specs.Steps.Few.{has_few_parts, has_few_types, are_few_frames, is_inner_few, is_few_code, has_few};
 
 use crate::attr::{Attr, AttrBody, CodeAttr, NoCode};
 use crate::frame::MapFrame;
@@ -19,7 +19,7 @@ fn has_few_parts(group: Option<FrameGroup>, frame: &MapFrame) -> bool
 }
 
 /// Whether the counts of types that a frame writes fit two bytes.
-#[tactic(auto, unfolding(crate::specs::Few::has_few_types))]
+#[tactic(auto, unfolding(crate::specs::Steps::Few::has_few_types))]
 fn has_few_types(frame: &MapFrame) -> bool
     ensures { result ≡ has_few_types frame.now }
 {
@@ -41,7 +41,7 @@ fn are_few_frames(frames: &[MapFrame]) -> bool
 }
 
 /// Whether the counts in an attribute of a `Code` fit two bytes.
-#[tactic(auto, unfolding(crate::specs::Few::is_inner_few))]
+#[tactic(auto, unfolding(crate::specs::Steps::Few::is_inner_few))]
 fn is_inner_few(attr: &Attr<NoCode>) -> bool
     ensures { result ≡ is_inner_few attr.now }
 {

@@ -9,7 +9,7 @@ use Rattle.jv_types.specs.declared.desc.Desc.{Desc}
 use Rattle.jv_types.specs.declared.desc.Desc.TheVariants as descs
 use Rattle.jv_types.specs.declared.desc.MethodDesc.{MethodDesc}
 use Rattle.jv_desc.specs.Texts.{prim_letter, ref_text, ref_dims, is_named, IsDesc, desc_text, IsFieldText, result_text, IsResult, IsMethodText}
-use Rattle.jv_desc.specs.Reading.{ReadsDesc, ReadsParams}
+use Rattle.jv_desc.specs.Steps.Reading.{ReadsDesc, ReadsParams}
 use Rattle.jv_desc.proofs.Layers.{ref_text-Array, ref_dims-Array, is_named-Array}
 use Rattle.jv_desc.proofs.Fronts.{Layer, layers, named-no_semicolon, one_end, same_letter, no_letter}
 use Rattle.jv_desc.proofs.RefReading.{heads, class_parts, array_parts, no_ref}

@@ -4,7 +4,7 @@ use Rattle.std.specs.List.{flat_map, AllByRecursion}
 use Rattle.std.proofs.lemmas.List.{append-nil}
 use Rattle.jv_types.specs.declared.desc.Desc.{Desc}
 use Rattle.jv_desc.specs.Texts.{IsDesc, desc_text}
-use Rattle.jv_desc.specs.Reading.{ReadsDesc, ReadsParams}
+use Rattle.jv_desc.specs.Steps.Reading.{ReadsDesc, ReadsParams}
 use Rattle.jv_desc.proofs.Agreement.{one_reading, first_param}
 
 -- each of some types, and one more

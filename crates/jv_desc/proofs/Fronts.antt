@@ -13,7 +13,7 @@ use Rattle.jv_types.specs.declared.desc.RefType.TheOpen as layer
 use Rattle.jv_desc.specs.declared.fault.BadDesc.{BadDesc}
 use Rattle.jv_desc.specs.declared.fault.BadDesc.TheVariants.{Bad}
 use Rattle.jv_desc.specs.Texts.{prim_letter}
-use Rattle.jv_desc.specs.Reading.{no_semicolon}
+use Rattle.jv_desc.specs.Steps.Reading.{no_semicolon}
 
 -- ---- letters
 

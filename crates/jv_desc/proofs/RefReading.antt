@@ -4,7 +4,7 @@ use Rattle.jv_types.specs.NameForms.{is_class_name}
 use Rattle.jv_types.specs.declared.desc.PrimType.{PrimType}
 use Rattle.jv_types.specs.declared.desc.RefType.{RefType, Class, PrimArray, Array}
 use Rattle.jv_desc.specs.Texts.{prim_letter, ref_text}
-use Rattle.jv_desc.specs.Reading.{no_semicolon, ReadsRef}
+use Rattle.jv_desc.specs.Steps.Reading.{no_semicolon, ReadsRef}
 use Rattle.jv_desc.proofs.Layers.{ref_text-Array, ref_dims-Array, is_named-Array}
 use Rattle.jv_desc.proofs.Fronts.{layers, named-no_semicolon, one_end}
 

@@ -3,7 +3,7 @@ ghost use Rattle.jv_types.specs.NameForms.{is_class_name};
 ghost use Rattle.jv_types.specs.declared.desc.PrimType.{PrimType};
 ghost use Rattle.jv_types.specs.declared.desc.RefType.{RefType as RefTypes};
 ghost use Rattle.jv_desc.specs.Texts.{prim_letter};
-ghost use Rattle.jv_desc.specs.Reading.{no_semicolon, ReadsRef};
+ghost use Rattle.jv_desc.specs.Steps.Reading.{no_semicolon, ReadsRef};
 
 use crate::fault::BadDesc;
 use crate::letters::prim_of;

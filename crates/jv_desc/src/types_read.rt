@@ -2,7 +2,7 @@ ghost use Rattle.std.specs.Prelude.{◌≡◌, ◌∷◌, ◌++◌, ℕ, List, O
 ghost use Rattle.jv_types.specs.declared.desc.Desc.{Desc as Descs};
 ghost use Rattle.jv_types.specs.declared.desc.MethodDesc.{MethodDesc as MethodDescs};
 ghost use Rattle.jv_desc.specs.Texts.{IsResult, result_text, IsFieldText, IsMethodText};
-ghost use Rattle.jv_desc.specs.Reading.{ReadsDesc, ReadsParams};
+ghost use Rattle.jv_desc.specs.Steps.Reading.{ReadsDesc, ReadsParams};
 
 use crate::fault::BadDesc;
 use crate::reading::{prim_at, ref_at};

@@ -11,7 +11,7 @@ use Rattle.jv_types.specs.declared.desc.Desc.{Desc}
 use Rattle.jv_types.specs.declared.desc.Desc.TheVariants as descs
 use Rattle.jv_types.specs.declared.desc.MethodDesc.{MethodDesc}
 use Rattle.jv_desc.specs.Texts.{prim_letter, IsDesc, desc_text, IsFieldText, IsResult, result_text, IsMethodText, words_of}
-use Rattle.jv_desc.specs.Reading.{no_semicolon, ReadsRef, ReadsDesc, ReadsParams}
+use Rattle.jv_desc.specs.Steps.Reading.{no_semicolon, ReadsRef, ReadsDesc, ReadsParams}
 use Rattle.jv_desc.proofs.Fronts.{no_end}
 use Rattle.jv_desc.proofs.RefReading.{heads, class_parts, no_ref_none, no_ref, no_ref_class, no_ref_array, yes_ref_array, no_class}
 use Rattle.jv_desc.proofs.Agreement.{reads_shorter, field_as_read, field_trailing, field_whole, method_as_read, method_stuck, one_method}
