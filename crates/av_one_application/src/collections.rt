@@ -23,8 +23,8 @@ pub fn same_applications_collect_alike()
     collected_by_rounds();
 }
 
-/// So there is one answer: the same limits pass, one rule fails at one class, or none does, and what is collected is one
-/// list of classes, with one list of their collected members and one greatest dimension.
+/// So there is one answer at most: the same limits pass, at most one rule fails, at one class name, and none where no class
+/// is refused; and what is collected is one list of classes, with one list of their collected members and one greatest dimension.
 pub fn collection_is_one()
     ensures limits { (folders : Folders) (given other : Application) (library others : List LibraryFile) (quantity : Quantity)
         → IsSameApplication given other → IsSameLibrary library others

@@ -8,7 +8,7 @@ ghost use Rattle.av_app_files.specs.Folders.{Folders};
 
 use jv_class::laws::classes_have_one_text;
 
-/// The files of an application stop once, or all of them pass.
+/// The files of an application stop in one way at most, and in none where all of them pass.
 pub fn files_have_one_stop()
     ensures stop { (folders : Folders) (stop other : AcceptStop) → StopsInFiles folders stop → StopsInFiles folders other → stop ≡ other }
     ensures apart { (folders : Folders) (stop : AcceptStop) (classes : List ClassFile) → StopsInFiles folders stop → AreAllLoaded folders classes → ⊥ }

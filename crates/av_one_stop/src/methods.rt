@@ -14,8 +14,8 @@ ghost use Rattle.av_stops.specs.Programs.{IsOfFile};
 use jv_insn::{codes_have_one_body, decoded_codes_fail_nowhere};
 use jv_verify::laws::methods_have_one_answer;
 
-/// A method of a class file fails one rule at one offset, or none. Where it is accepted, it has one body and one table of
-/// frames.
+/// A method of a class file fails at most one rule, at one offset, and none where it is accepted. An accepted one has one
+/// body and one table of frames.
 pub fn methods_fail_once()
     ensures failure { (w : List Shape) (class : ClassFile) (id : MethodId) (member : Member) (rule another : Rule) (pc other : ℕ) → IsOfFile class → Contains class.methods member
         → FailsMethod w class id member rule pc → FailsMethod w class id member another other → (rule ≡ another) × (pc ≡ other) }
@@ -29,7 +29,8 @@ pub fn methods_fail_once()
     methods_have_one_answer();
 }
 
-/// The methods of class files stop once, or all of them pass and are one list.
+/// The methods of class files stop at one place at most, and at none where all of them pass. Those that pass are one
+/// list.
 pub fn methods_have_one_stop()
     ensures stop { (w : List Shape) (classes : List ClassFile) (rule another : Rule) (place other : RulePlace) → ((class : ClassFile) → Contains classes class → IsOfFile class)
         → StopsAtMethod w classes rule place → StopsAtMethod w classes another other → (rule ≡ another) × (place ≡ other) }

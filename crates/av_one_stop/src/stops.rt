@@ -14,7 +14,7 @@ use crate::hierarchies::hierarchies_fail_once;
 use crate::methods::methods_have_one_stop;
 use av_one_application::{applications_are_one, collection_is_one, libraries_are_one};
 
-/// What comes first is one refusal, or one of the limits that pass at one place.
+/// Two things that come first are one refusal, or both are limits.
 pub fn first_stop_is_one()
     ensures { (folders : Folders) (main : Option (List ℕ)) (stop other : AcceptStop) → FirstStop folders main stop → FirstStop folders main other
         → (stop ≡ other) ⊎ (IsLimit stop × IsLimit other) }
