@@ -8,7 +8,7 @@ use Rattle.jv_pool.specs.declared.item.PoolItem.{PoolItem}
 use Rattle.jv_attr.specs.declared.frame.MapFrame.{MapFrame}
 use Rattle.jv_frames.specs.Types.{frame_of}
 use Rattle.jv_frames.specs.Maps.{frame_delta, IsMapFrame, IsNoMapFrame, AreMapFrames, IsFirstBad}
-use Rattle.jv_frames.specs.Mapping.{GoesOn}
+use Rattle.jv_frames.specs.Steps.Mapping.{GoesOn}
 
 -- what is left begins with the next frame
 left : (frames : List MapFrame) (n : ℕ) (f : MapFrame) → n < length frames → f ≡ get_or frames n f → drop n frames ≡ f ∷ drop (n + 1) frames

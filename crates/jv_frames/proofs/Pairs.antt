@@ -3,7 +3,7 @@ use Rattle.std.proofs.Common.{◌≡◌, ℕ, ◌+◌, ◌<◌, List, length, ta
 use Rattle.std.proofs.lemmas.List.{take_more, take_all}
 use Rattle.std.proofs.lemmas.List.Elements.{AllZip-push}
 use Rattle.std.specs.List.{AllZip}
-use Rattle.jv_frames.specs.Pairs.{AllZipBefore}
+use Rattle.jv_frames.specs.Steps.Pairs.{AllZipBefore}
 
 pub AllZipBefore-more : {X : Type 0} (R : X → X → Type 0) (xs ys : List X) (i : ℕ) (d e : X) → i < length xs → AllZipBefore R xs ys i → R (get_or xs i d) (get_or ys i e)
     → AllZipBefore R xs ys (i + 1)

@@ -1,5 +1,5 @@
 use Rattle.jv_frames.specs.Assignable.{IsAssignable}
-use Rattle.jv_frames.specs.Pairs.{AllZipBefore}
+use Rattle.jv_frames.specs.Steps.Pairs.{AllZipBefore}
 use Rattle.jv_frames.proofs.assignability.are_assignable.Given as goal
 
 abbrev pub invariant-loop-place : goal.invariant-loop-place

@@ -1,4 +1,4 @@
-use Rattle.jv_frames.specs.Mapping.{GoesOn}
+use Rattle.jv_frames.specs.Steps.Mapping.{GoesOn}
 use Rattle.jv_frames.proofs.maps.map_frames.Given as goal
 
 abbrev pub invariant-loop-f : goal.invariant-loop-f

@@ -1,0 +1,3 @@
+-- What only private functions say.
+pub mod Mapping
+pub mod Pairs
