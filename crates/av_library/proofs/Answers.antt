@@ -1,5 +1,5 @@
 -- What the bytes that were read of a file say of the library.
-use Rattle.std.proofs.Common.{◌≡◌, ◌<◌, ◌≤◌, ◌+◌, ℕ, Bool, false, true, List, length, take, Option, Some, None, option_map, IfSome, IfOk, Result, Ok, Err, refl, sym, ap, subst, ◌∙◌, arith}
+use Rattle.std.proofs.Common.{◌≡◌, ◌≤◌, ℕ, false, true, List, length, take, Option, Some, None, option_map, IfSome, IfOk, Result, Ok, Err, refl, sym, subst, arith}
 use Rattle.jv_types.specs.declared.shapes.Shape.{Shape}
 use Rattle.jv_host.specs.declared.host.HostFile.{HostFile}
 use Rattle.jv_host.specs.declared.host.HostFault.{HostFault}

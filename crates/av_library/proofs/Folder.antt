@@ -1,8 +1,8 @@
 -- The library that was worked out from the files of a host is the one in the folder.
-use Rattle.std.proofs.Common.{◌≡◌, ◌-◌, ◌+◌, ◌≤◌, ◌⊎◌, inl, inr, Bool, true, false, not, ◌&&◌, ℕ, List, [], ◌++◌, map, filter, length, take, drop, Option, Some, None, unwrap_or, option_map, codes, nat_eq, Contains, refl, sym, ap, subst, ◌∙◌, arith, length-append}
+use Rattle.std.proofs.Common.{◌≡◌, ◌-◌, ◌+◌, Bool, true, false, not, ℕ, List, [], ◌++◌, map, filter, length, take, drop, Option, Some, None, unwrap_or, codes, nat_eq, Contains, refl, sym, ap, subst, ◌∙◌, arith, length-append}
 use Rattle.std.specs.List.{ends_with}
 use Rattle.std.specs.Cmp.Lexicographic.{pointwise, bytes_decides}
-use Rattle.std.proofs.lemmas.Bool.{and_parts, and_from, not_from_true, not_from_false, false≢true}
+use Rattle.std.proofs.lemmas.Bool.{and_parts, and_from, not_from_false}
 use Rattle.std.proofs.lemmas.List.{take-append-drop}
 use Rattle.std.proofs.Math.Seq.{take-append_seam, drop-append_seam}
 use Rattle.jv_types.specs.declared.shapes.Shape.{Shape}
@@ -10,8 +10,8 @@ use Rattle.jv_host.specs.declared.host.HostFile.{HostFile}
 use Rattle.jv_host.specs.Files.{bytes_of, class_names, is_class_under}
 use Rattle.jv_host.proofs.FileLemmas.{bytes_of-Some, bytes_of-None}
 use Rattle.av_collected.specs.Libraries.{LibraryFile, IsLibrary, IsLibraryShape, HasFile}
-use Rattle.av_app_files.specs.Folders.{Folders, is_module_info, file_of}
-use Rattle.av_stops.specs.LibraryFolders.{HasBytes, IsClassOf, IsWorth, IsLibraryIn}
+use Rattle.av_app_files.specs.Folders.{is_module_info, file_of}
+use Rattle.av_stops.specs.LibraryFolders.{HasBytes, IsWorth, IsLibraryIn}
 use Rattle.av_library.specs.Told.{class_of, entry, library_in, worth}
 use Rattle.av_library.proofs.Members.{mapped_from, mapped_to, picked_from, picked_to}
 use Rattle.av_library.proofs.Shapes.{library_shape}

@@ -1,15 +1,13 @@
 -- The shape that the file of a library class states is one that a library may have.
-use Rattle.std.proofs.Common.{◌≡◌, ◌<◌, ◌≤◌, ◌^◌, ◌⊎◌, inl, inr, ℕ, List, [], ◌∷◌, length, Contains, Option, Some, None, refl, sym, ap, subst, ◌∙◌, arith}
+use Rattle.std.proofs.Common.{◌≡◌, ◌≤◌, ◌⊎◌, inl, inr, ℕ, List, [], ◌∷◌, Contains, Option, Some, None, sym, subst, arith}
 use Rattle.std.specs.List.{AllByRecursion}
 use Rattle.jv_types.specs.declared.desc.Desc.{Desc}
 use Rattle.jv_types.specs.declared.desc.Desc.TheVariants.{Prim, Ref}
 use Rattle.jv_types.specs.declared.desc.MethodDesc.{MethodDesc}
-use Rattle.jv_types.specs.declared.shapes.FieldShape.{FieldShape}
-use Rattle.jv_types.specs.declared.shapes.MethodShape.{MethodShape}
 use Rattle.jv_types.specs.declared.shapes.Shape.{Shape}
 use Rattle.jv_desc.specs.Texts.{IsDesc, IsMethodDesc, IsResult}
 use Rattle.jv_class.specs.Shapes.{IsFieldShape, IsMethodShape}
-use Rattle.av_collected.specs.Libraries.{IsBounded, IsLibraryShape}
+use Rattle.av_collected.specs.Libraries.{IsLibraryShape}
 use Rattle.av_collected.specs.Types.{IsPartOf, dims_of}
 use Rattle.av_collected.proofs.Lists.{of_cons, in_none}
 use Rattle.av_stops.specs.LibraryFolders.{IsClassOf}

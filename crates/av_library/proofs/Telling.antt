@@ -1,5 +1,5 @@
 -- What is known of each source, told of the files of the names that were answered.
-use Rattle.std.proofs.Common.{◌≡◌, ◌<◌, ◌≤◌, ◌⊎◌, inl, inr, Bool, true, false, ltb, ℕ, List, [], ◌∷◌, ◌++◌, sum_by, if◌then◌else◌, Option, Some, None, IfSome, refl, sym, subst, ◌∙◌, arith}
+use Rattle.std.proofs.Common.{◌≡◌, ◌≤◌, inl, inr, Bool, true, false, ltb, ℕ, List, [], ◌∷◌, ◌++◌, sum_by, if◌then◌else◌, Option, Some, None, IfSome, refl, sym, subst, arith}
 use Rattle.std.proofs.Math.Logic.{∥∥₁_elim, ∥∥₁_map}
 use Rattle.std.specs.Coded.{coded_ℕ, coded_bool, le_prop}
 use base.Stored.{Coded-set}

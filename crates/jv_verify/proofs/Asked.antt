@@ -1,6 +1,6 @@
 -- The instructions whose checks were made, in their order, and the handlers beside them.
-use Rattle.std.proofs.Common.{◌≡◌, ℕ, ◌<◌, ◌≤◌, Bool, false, true, List, length, get_or, Option, Some, None, refl, sym, ◌∙◌, subst, inl, inr, arith}
-use Rattle.std.specs.Prelude.{IsTrue, min}
+use Rattle.std.proofs.Common.{◌≡◌, ℕ, ◌<◌, ◌≤◌, Bool, false, List, length, get_or, Option, Some, None, sym, subst, inl, inr, arith}
+use Rattle.std.specs.Prelude.{min}
 use Rattle.std.proofs.lemmas.Bool.{cases_lt}
 use Rattle.jv_types.specs.Bodies.{at_offset, IsStart}
 use Rattle.jv_types.specs.declared.ids.MethodId.{MethodId}
@@ -11,7 +11,7 @@ use Rattle.jv_types.specs.declared.frames.Frame.{Frame}
 use Rattle.jv_names.proofs.NamedOnce.{given_twice}
 use Rattle.jv_typing_laws.proofs.Rows.{what_starts, starts_by}
 use Rattle.av_conditions.proofs.Standing.{HoldsBefore, holds_of_all, holds_of_earlier, stands_at}
-use Rattle.jv_verify.specs.Steps.Checking.{StandsIn, IsTypedThere, IsTypedIf, FailsItself, IsCheckedAt, AreChecked, Decides, FailsFirst, FailsHere, unfit, FirstFails, SatisfiesAllAt, FailsSomeAt, IsLeastBad, earlier}
+use Rattle.jv_verify.specs.Steps.Checking.{IsTypedThere, IsTypedIf, FailsItself, IsCheckedAt, Decides, FailsFirst, FailsHere, unfit, FirstFails, SatisfiesAllAt, FailsSomeAt, IsLeastBad, earlier}
 
 -- the instruction of a row is typed
 abbrev pub IsTypedRow : List Shape → MethodId → Body → List (ℕ × Frame) → ℕ × Insn → Type 0

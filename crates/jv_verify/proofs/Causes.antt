@@ -1,5 +1,5 @@
 -- Why a method is refused.
-use Rattle.std.proofs.Common.{◌≡◌, ℕ, List}
+use Rattle.std.proofs.Common.{ℕ, List}
 use Rattle.jv_types.specs.declared.ids.MethodId.{MethodId}
 use Rattle.jv_types.specs.declared.rule.Rule.TheVariants as rules
 use Rattle.jv_types.specs.declared.shapes.Shape.{Shape}

@@ -1,25 +1,24 @@
 -- What a handler wants, part by part, and the frames that it covers.
-use Rattle.std.proofs.Common.{◌≡◌, ℕ, zero, suc, ◌+◌, ◌<◌, ◌≤◌, ◌-◌, Bool, true, false, ltb, List, [], ◌∷◌, ◌++◌, length, take, drop, get_or, All, Option, Some, None, IsTrue, sym, subst, refl, ap, ◌∙◌, ◌⊎◌, inl, inr, arith}
-use Rattle.std.specs.Prelude.{◌↔◌, Contains, IfSome, IfNone, min}
+use Rattle.std.proofs.Common.{◌≡◌, ℕ, ◌+◌, ◌<◌, ◌≤◌, ◌-◌, true, false, ltb, List, [], ◌∷◌, ◌++◌, length, take, drop, get_or, All, Option, Some, None, IsTrue, sym, subst, ap, ◌∙◌, ◌⊎◌, inl, inr, arith}
+use Rattle.std.specs.Prelude.{Contains, IfSome, IfNone, min}
 use Rattle.std.specs.List.{AllZip}
 use Rattle.std.specs.List.Sorted.{IsNonDecreasingBy, IsPartitionPoint}
 use Rattle.std.proofs.lemmas.Bool.{cases_lt}
 use Rattle.std.proofs.lemmas.Bool.Decides.{nat_tests}
 use Rattle.std.proofs.lemmas.List.{get_or-take, get_or-drop, get_or_default, length-drop, length-take-le, take_all, take_more}
 use Rattle.std.proofs.lemmas.List.Elements.{All-get_or, Contains-append_cases, Contains-append_left, Contains-append_right}
-use Rattle.jv_types.specs.Bodies.{at_offset, rises_from, IsStart}
+use Rattle.jv_types.specs.Bodies.{at_offset, rises_from}
 use Rattle.jv_types.specs.declared.shapes.Shape.{Shape}
 use Rattle.jv_types.specs.declared.body.Handler.{Handler}
-use Rattle.jv_types.specs.declared.frames.VType.{VType, Class}
+use Rattle.jv_types.specs.declared.frames.VType.{Class}
 use Rattle.jv_types.specs.declared.frames.Frame.{Frame}
 use Rattle.jv_types.proofs.Starts.{starts_rise, at_offset-at, start_place}
 use Rattle.jv_names.proofs.NamedOnce.{given_twice}
 use Rattle.jv_world.specs.Instances.{IsSubNamed}
-use Rattle.jv_insn.specs.KindSafe.{Covers}
 use Rattle.jv_frames.specs.Assignable.{IsAssignable, IsFrameAssignable}
-use Rattle.jv_typing.specs.TypeSafe.{caught_name, throwable_name, handler_frame, FitsThere, SatisfiesHandler}
+use Rattle.jv_typing.specs.TypeSafe.{caught_name, throwable_name, handler_frame}
 use Rattle.jv_typing_laws.proofs.Rows.{starts_by}
-use Rattle.jv_verify.specs.Steps.Checking.{StandsIn, FitsTarget, IsTarget, SatisfiesAt, FailsHandlerAt, SatisfiesAllAt, FailsSomeAt, AreWithin, IsFirstWithout, IsLeastBad, earlier}
+use Rattle.jv_verify.specs.Steps.Checking.{FitsTarget, IsTarget, SatisfiesAt, FailsHandlerAt, SatisfiesAllAt, FailsSomeAt, AreWithin, IsFirstWithout, IsLeastBad, earlier}
 use Rattle.jv_verify.proofs.Each.{first_or_later, is_first}
 
 -- ---- the target of a handler

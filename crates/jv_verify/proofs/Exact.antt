@@ -1,6 +1,6 @@
 -- The frames that are made one after the other are exactly those that are forced.
-use Rattle.std.proofs.Common.{◌≡◌, ℕ, zero, suc, ◌+◌, ◌<◌, ◌≤◌, Bool, true, false, cond, eqb, List, [], ◌∷◌, ◌++◌, append_assoc, Option, Some, None, refl, sym, ap, ◌∙◌, subst, arith}
-use Rattle.std.specs.Prelude.{nat_le, IsSome, IsTrue}
+use Rattle.std.proofs.Common.{◌≡◌, ℕ, ◌+◌, ◌<◌, ◌≤◌, Bool, true, false, cond, eqb, List, [], ◌∷◌, ◌++◌, append_assoc, Option, Some, None, refl, sym, ap, ◌∙◌, subst, arith}
+use Rattle.std.specs.Prelude.{nat_le, IsSome}
 use Rattle.std.proofs.lemmas.Bool.{and_parts}
 use Rattle.std.proofs.lemmas.Bool.Decides.{nat_tests}
 use Rattle.jv_types.specs.Bodies.{at_offset, rises_from, IsStart, IsNextStart}
@@ -14,9 +14,9 @@ use Rattle.jv_names.proofs.NamedOnce.{given_twice}
 use Rattle.jv_frames.specs.Entry.{IsInitialFrame}
 use Rattle.jv_typing.specs.Steps.{StepTyping}
 use Rattle.jv_typing.specs.TypeSafe.{site_at, IsForced, first, by_map, left}
-use Rattle.jv_typing_laws.proofs.OneFrame.{one_step, one_initial}
+use Rattle.jv_typing_laws.proofs.OneFrame.{one_step}
 use Rattle.jv_typing_laws.proofs.Forced.{one_forced}
-use Rattle.jv_typing_laws.proofs.Rows.{starts_by, nothing_starts, one_before}
+use Rattle.jv_typing_laws.proofs.Rows.{starts_by, one_before}
 use Rattle.jv_verify.specs.Steps.Forcing.{forced_here, with_frame, IsHandedOn, IsLeft, AreForcedFrom}
 
 pub none_is_no_some : {X : Type 0} (o : Option X) (x : X) → o ≡ None → o ≡ Some x → ⊥

@@ -1,5 +1,5 @@
 -- What a code that was decoded has, with the frames of its maps.
-use Rattle.std.proofs.Common.{◌≡◌, ℕ, ◌+◌, ◌<◌, List, [], ◌∷◌, length, Bool, true, false, cond, eqb, Option, Some, None, refl, sym, ◌∙◌, subst, arith}
+use Rattle.std.proofs.Common.{◌≡◌, ℕ, ◌+◌, ◌<◌, List, [], ◌∷◌, length, Bool, true, false, cond, eqb, Some, None, refl, ◌∙◌, subst, arith}
 use Rattle.std.specs.Prelude.{IsSome}
 use Rattle.std.specs.List.{AllZip}
 use Rattle.std.proofs.lemmas.Bool.Decides.{nat_tests}
@@ -14,14 +14,13 @@ use Rattle.jv_pool.specs.declared.item.PoolItem.{PoolItem}
 use Rattle.jv_attr.specs.declared.frame.MapFrame.{MapFrame}
 use Rattle.jv_attr.specs.declared.attr.CodeAttr.{CodeAttr}
 use Rattle.jv_insn.specs.declared.written.Written.{Written}
-use Rattle.jv_insn.specs.Layouts.{Lays, Ends, AtEnd, BreaksOff}
+use Rattle.jv_insn.specs.Layouts.{Lays, Ends, AtEnd}
 use Rattle.jv_insn.specs.Decoding.{IsRow, Decodes}
 use Rattle.jv_insn.proofs.OfLayout.{decoded_own}
 use Rattle.jv_frames.specs.Types.{frame_of}
 use Rattle.jv_frames.specs.Maps.{frame_delta, AreMapFrames, AreFramesOf}
 use Rattle.jv_typing_laws.proofs.Forced.{maps_rise}
 use Rattle.jv_verify.specs.Steps.Checking.{IsReady}
-use Rattle.jv_verify.proofs.Exact.{none_is_no_some}
 
 -- each map stands at an instruction
 at_instructions : (pool : List PoolItem) (body : Body) (base : ℕ) (before : List VType) (written : List MapFrame) (rows : List (ℕ × Frame)) → AreMapFrames pool body base before written rows

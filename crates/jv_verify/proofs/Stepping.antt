@@ -1,5 +1,5 @@
 -- A step by its two halves, and what it decides of a table.
-use Rattle.std.proofs.Common.{◌≡◌, ℕ, ◌<◌, ◌≤◌, List, Bool, true, false, Option, Some, Result, Ok, Err, refl, sym, ◌∙◌, subst, arith}
+use Rattle.std.proofs.Common.{◌≡◌, ℕ, ◌<◌, List, Bool, true, false, Option, Some, Result, Ok, Err, refl, sym, ◌∙◌, subst, arith}
 use Rattle.std.specs.Prelude.{◌↔◌, IsTrue, IfOk, None}
 use Rattle.jv_types.specs.Bodies.{at_offset, arg_targets}
 use Rattle.jv_types.specs.declared.ids.MethodId.{MethodId}
@@ -8,12 +8,11 @@ use Rattle.jv_types.specs.declared.instruction.Arg.{Arg}
 use Rattle.jv_types.specs.declared.instruction.Insn.{Insn}
 use Rattle.jv_types.specs.declared.body.Body.{Body}
 use Rattle.jv_types.specs.declared.frames.Frame.{Frame}
-use Rattle.jv_insn.specs.Effects.{is_end}
 use Rattle.jv_typing.specs.declared.no_typing.NoTyping.{NoTyping}
 use Rattle.jv_typing.specs.declared.no_typing.NoTyping.TheVariants as none
 use Rattle.jv_typing.specs.Finding.{Types}
 use Rattle.jv_typing.specs.Typing.{IsWordTyping}
-use Rattle.jv_typing.specs.References.{Site, IsRefTyping}
+use Rattle.jv_typing.specs.References.{IsRefTyping}
 use Rattle.jv_typing.specs.Steps.{StepTyping, words, references}
 use Rattle.jv_typing.specs.TypeSafe.{site_at, FitsWhereItGoes, IsForced, first, by_map, left}
 use Rattle.jv_typing_laws.proofs.Rows.{starts_by, one_before}

@@ -1,29 +1,25 @@
 -- A table of frames from the checks of its instructions, and where a method has none.
 use Rattle.std.proofs.Common.{◌≡◌, ℕ, ◌+◌, ◌<◌, ◌≤◌, Bool, true, false, cond, eqb, ltb, List, [], ◌∷◌, map, Option, Some, None, refl, sym, ap, ◌∙◌, subst, arith}
-use Rattle.std.specs.Prelude.{IsSome, Contains}
-use Rattle.std.specs.List.{AllZip}
+use Rattle.std.specs.Prelude.{IsSome}
 use Rattle.std.proofs.lemmas.Bool.Decides.{nat_tests}
-use Rattle.jv_types.specs.Bodies.{at_offset, rises_from, arg_targets, IsStart, IsNextStart}
+use Rattle.jv_types.specs.Bodies.{at_offset, rises_from, IsStart, IsNextStart}
 use Rattle.jv_types.specs.declared.ids.MethodId.{MethodId}
 use Rattle.jv_types.specs.declared.shapes.Shape.{Shape}
 use Rattle.jv_types.specs.declared.instruction.Insn.{Insn}
 use Rattle.jv_types.specs.declared.body.Body.{Body}
-use Rattle.jv_types.specs.declared.body.Handler.{Handler}
-use Rattle.jv_types.specs.declared.frames.VType.{VType}
 use Rattle.jv_types.specs.declared.frames.Frame.{Frame}
 use Rattle.jv_insn.specs.Effects.{is_end}
-use Rattle.jv_insn.specs.KindSafe.{Covers}
 use Rattle.jv_names.proofs.NamedOnce.{given_twice}
 use Rattle.jv_frames.specs.Entry.{IsInitialFrame}
-use Rattle.jv_frames.specs.Assignable.{IsAssignable, IsFrameAssignable, same}
+use Rattle.jv_frames.specs.Assignable.{IsFrameAssignable, same}
 use Rattle.jv_typing.specs.Steps.{StepTyping}
-use Rattle.jv_typing.specs.TypeSafe.{site_at, FitsThere, SatisfiesHandler, FitsWhereItGoes, BeginsRight, IsTypedAt, IsTypeSafe, IsForced, first, by_map, left, FailsAt, no_initial, unfit_initial, unforced, misshapen, untyped, unfit, FailsLeastAt}
+use Rattle.jv_typing.specs.TypeSafe.{site_at, FitsThere, FitsWhereItGoes, BeginsRight, IsTypedAt, IsTypeSafe, IsForced, first, by_map, left, FailsAt, no_initial, unfit_initial, unforced, misshapen, untyped, unfit, FailsLeastAt}
 use Rattle.jv_typing_laws.proofs.OneFrame.{one_step, one_initial}
 use Rattle.jv_typing_laws.proofs.Rows.{what_starts, starts_by, nothing_starts, one_before}
 use Rattle.jv_verify.specs.Steps.Forcing.{forced_here, with_frame, AreForcedFrom, AreForced}
 use Rattle.jv_verify.specs.Steps.Checking.{StandsIn, IsCheckedAt, FailsHere, AreChecked, FailsFirst, FitsFirst, HasBegun, IsReady}
 use Rattle.jv_verify.specs.Steps.Checking as checks
-use Rattle.jv_verify.proofs.Exact.{IsExactAt, BeginsWith, exact_frames, forced_rise, rest_rises, none_below, none_is_no_some, start_above}
+use Rattle.jv_verify.proofs.Exact.{IsExactAt, exact_frames, forced_rise, rest_rises, none_below, none_is_no_some, start_above}
 use Rattle.jv_verify.proofs.Itself.{frame_to_itself}
 
 -- ---- what was made

@@ -5,7 +5,7 @@ use Rattle.jv_types.specs.declared.shapes.Shape.{Shape}
 use Rattle.jv_types.specs.declared.frames.Frame.{Frame}
 use Rattle.jv_typing.specs.TypeSafe.{FitsThere}
 use Rattle.jv_verify.specs.Steps.Checking.{StandsIn, FitsAtEach}
-use Rattle.jv_verify.proofs.Each.{first_or_later, is_first, is_later}
+use Rattle.jv_verify.proofs.Each.{first_or_later, is_later}
 
 -- the default first, and then the others
 pub later_decide : (w : List Shape) (rows : List (ℕ × Frame)) (default : ℕ) (targets : List ℕ) (frame : Frame) → FitsThere w (StandsIn rows) default frame

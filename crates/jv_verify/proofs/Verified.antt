@@ -1,5 +1,5 @@
 -- What a verified method has, and that a method has one answer.
-use Rattle.std.proofs.Common.{◌≡◌, ◌≤◌, ℕ, List, refl, sym, ap, ◌∙◌, subst, arith}
+use Rattle.std.proofs.Common.{◌≡◌, ◌≤◌, ℕ, List, sym, ◌∙◌, subst, arith}
 use Rattle.jv_types.specs.declared.ids.MethodId.{MethodId}
 use Rattle.jv_types.specs.declared.rule.Rule.{Rule}
 use Rattle.jv_types.specs.declared.shapes.Shape.{Shape}
@@ -18,7 +18,7 @@ use Rattle.jv_typing.specs.TypeSafe.{AreMapsOf, IsTypeSafe, TypeSafe, FailsLeast
 use Rattle.jv_typing_laws.proofs.Forced.{one_table}
 use Rattle.jv_typing_laws.proofs.Failing.{never_fails}
 use Rattle.jv_typing_laws.proofs.KindSafety.{kind_safe}
-use Rattle.jv_verify.specs.Verified.{IsCodeOf, IsVerified, IsUnverified, no_maps, no_table}
+use Rattle.jv_verify.specs.Verified.{IsVerified, IsUnverified, no_maps, no_table}
 use Rattle.jv_verify.proofs.OneCode.{one_code}
 
 -- the maps of a verified method, for its own body

@@ -1,4 +1,4 @@
-use Rattle.std.proofs.Common.{inl, inr, sym, ◌∙◌, arith}
+use Rattle.std.proofs.Common.{inl, inr, sym, ◌∙◌}
 use Rattle.av_library.proofs.Worths.{alike, bad_name, bad_version, differ, good_file}
 use Rattle.av_library.proofs.worth.worth.Goals.{then-class-lt45-via-then-class-lt45, then-class-lt45-via-else-class-lt45+then-class-gt52}
 use Rattle.av_library.proofs.worth.worth.Goals as goal
