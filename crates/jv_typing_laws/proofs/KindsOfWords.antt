@@ -9,6 +9,7 @@ use Rattle.jv_types.specs.declared.frames.VType as types
 use Rattle.jv_insn.specs.Kinds.{HoldsCell, is_reference, is_wide, WordKind, Word, Reference, Unknown, cell_words, kind_of, kinds_after, SaysOnly}
 use Rattle.jv_frames.specs.Types.{is_array, is_object}
 use Rattle.jv_frames.specs.Assignable.{IsAssignable, same, to_top, of_null, of_class, of_array, of_items}
+use Rattle.jv_insn.proofs.HeldCells.{reference_kind}
 use Rattle.jv_frames.proofs.Arrays.{is_object-Array}
 use Rattle.jv_typing.specs.Typing.{is_top}
 use Rattle.jv_typing.specs.Transitions.{IsReplaced, AreReplaced}
@@ -26,19 +27,6 @@ kinds_join second (x ∷ xs) ys f = ap (λ (ks : List WordKind). kind_of second 
 pub kinds_long : (second : Bool) (xs : List VType) → length (kinds_after second xs) ≡ length xs
 kinds_long second [] = refl
 kinds_long second (x ∷ xs) = ap suc (kinds_long (is_wide x) xs)
-
-pub reference_kind : (second : Bool) (type : VType) → is_reference type ≡ true → kind_of second type ≡ Reference
-reference_kind second types.Top e = absurd cc
-reference_kind second types.Integer e = absurd cc
-reference_kind second types.Float e = absurd cc
-reference_kind second types.Long e = absurd cc
-reference_kind second types.Double e = absurd cc
-reference_kind second types.Null e = refl
-reference_kind second types.UninitThis e = refl
-reference_kind second (types.Uninit pc) e = refl
-reference_kind second (types.Class name) e = refl
-reference_kind second (types.PrimArray prim) e = refl
-reference_kind second (types.Array' shape all) e = refl
 
 -- ---- kinds that say no more than others, place by place
 
