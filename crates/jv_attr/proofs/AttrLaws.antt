@@ -16,6 +16,7 @@ use Rattle.jv_attr.specs.declared.attr.AttrBody.{AttrBody}
 use Rattle.jv_attr.specs.declared.attr.AttrBody.TheVariants.{Code, Maps, Raw}
 use Rattle.jv_attr.specs.declared.attr.CodeAttr.{CodeAttr}
 use Rattle.std.specs.declared.convert.Infallible.{Infallible as NoCode}
+use Rattle.jv_lists.proofs.Tests.{both_false}
 use Rattle.jv_attr.specs.declared.owner.Owner as owners
 use Rattle.jv_attr.specs.declared.owner.Owner.TheVariants as owner
 use Rattle.jv_attr.specs.FrameText.{frames_text}
@@ -196,11 +197,6 @@ handlers_take pool bytes x e = counted_take (handler_at pool) handler_text (IsRa
 handlers_again : (pool : List PoolItem) (handlers : List RawHandler) (rest : List ℕ) → AllByRecursion (IsRawHandler pool) handlers → length handlers < 2 ^ 16
     → handlers_at pool ((u2 (length handlers) ++ flat_map handler_text handlers) ++ rest) ≡ Some (handlers, rest)
 handlers_again pool handlers rest h few = counted_again (handler_at pool) handler_text (IsRawHandler pool) (handler_again pool) handlers rest h few
-
--- neither test passed
-both_false : (p q : Bool) → (p || q) ≡ false → (p ≡ false) × (q ≡ false)
-both_false true q e = absurd cc
-both_false false q e = (refl, e)
 
 -- each of its attributes, with one of the three things that are known of it
 inner_each : (pool : List PoolItem) (major : ℕ) (attrs : List (Attr NoCode)) → AllByRecursion (IsWholeInner pool major) attrs → AllByRecursion (IsInner pool major) attrs

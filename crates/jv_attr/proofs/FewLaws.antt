@@ -1,5 +1,5 @@
 -- The tests of counts pass exactly where the counts fit.
-use Rattle.std.proofs.Common.{◌≡◌, Bool, true, false, ltb, ◌&&◌, List, [], ◌∷◌, length, Option, Some, None, refl}
+use Rattle.std.proofs.Common.{◌≡◌, Bool, true, ltb, ◌&&◌, List, [], ◌∷◌, length, Option, Some, None, refl}
 use Rattle.std.specs.List.{list_all, AllByRecursion}
 use Rattle.std.proofs.lemmas.Bool.{and_parts, ltb-true, lt-ltb}
 use Rattle.jv_table.specs.declared.class_tables.FrameGroup.{FrameGroup}
@@ -10,6 +10,7 @@ use Rattle.jv_attr.specs.declared.attr.AttrBody.{AttrBody}
 use Rattle.jv_attr.specs.declared.attr.AttrBody.TheVariants.{Code, Maps, Raw}
 use Rattle.jv_attr.specs.declared.attr.CodeAttr.{CodeAttr}
 use Rattle.std.specs.declared.convert.Infallible.{Infallible as NoCode}
+use Rattle.jv_lists.proofs.Tests.{both_true}
 use Rattle.jv_attr.specs.FrameText.{group_of, HasFewParts, HasFewTypes, AreFewFrames}
 use Rattle.jv_attr.specs.AttrText.{HasFewWith, IsInnerFew, IsNoCode, IsFewCode, HasFew}
 use Rattle.jv_attr.specs.Steps.Few.{has_few_parts, has_few_types, are_few_frames, is_body_few, is_no_few, is_inner_few, is_few_code, has_few}
@@ -22,13 +23,9 @@ all_to t P one (x ∷ xs) e =
     let h = and_parts (t x) (list_all t xs) e in
     (one x h.0, all_to t P one xs h.1)
 
-both_are : (p q : Bool) → p ≡ true → q ≡ true → (p && q) ≡ true
-both_are true q p e = e
-both_are false q p e = absurd cc
-
 all_from : {A : Type 0} (t : A → Bool) (P : A → Type 0) → ((a : A) → P a → t a ≡ true) → (xs : List A) → AllByRecursion P xs → list_all t xs ≡ true
 all_from t P one [] h = refl
-all_from t P one (x ∷ xs) h = both_are (t x) (list_all t xs) (one x h.0) (all_from t P one xs h.1)
+all_from t P one (x ∷ xs) h = both_true (t x) (list_all t xs) (one x h.0) (all_from t P one xs h.1)
 
 -- ---- frames
 
@@ -52,7 +49,7 @@ parts_from (Some SameOneExtended) f h = refl
 parts_from (Some Chop) f h = refl
 parts_from (Some SameExtended) f h = refl
 parts_from (Some Append) f h = refl
-parts_from (Some Full) f h = both_are (ltb (length f.locals) 65536) (ltb (length f.stack) 65536) (lt-ltb (length f.locals) 65536 h.0) (lt-ltb (length f.stack) 65536 h.1)
+parts_from (Some Full) f h = both_true (ltb (length f.locals) 65536) (ltb (length f.stack) 65536) (lt-ltb (length f.locals) 65536 h.0) (lt-ltb (length f.stack) 65536 h.1)
 
 types_to : (f : MapFrame) → has_few_types f ≡ true → HasFewTypes f
 unfolding has_few_types
@@ -69,7 +66,7 @@ frames_to frames e =
 
 frames_from : (frames : List MapFrame) → AreFewFrames frames → are_few_frames frames ≡ true
 frames_from frames h =
-    both_are (ltb (length frames) 65536) (list_all has_few_types frames) (lt-ltb (length frames) 65536 h.0) (all_from has_few_types HasFewTypes types_from frames h.1)
+    both_true (ltb (length frames) 65536) (list_all has_few_types frames) (lt-ltb (length frames) 65536 h.0) (all_from has_few_types HasFewTypes types_from frames h.1)
 
 -- ---- attributes
 
@@ -99,8 +96,8 @@ code_to c e =
 
 code_from : (c : CodeAttr) → IsFewCode c → is_few_code c ≡ true
 code_from c h =
-    both_are (ltb (length c.handlers) 65536 && ltb (length c.attrs) 65536) (list_all is_inner_few c.attrs)
-    (both_are (ltb (length c.handlers) 65536) (ltb (length c.attrs) 65536) (lt-ltb (length c.handlers) 65536 h.handlers) (lt-ltb (length c.attrs) 65536 h.attrs))
+    both_true (ltb (length c.handlers) 65536 && ltb (length c.attrs) 65536) (list_all is_inner_few c.attrs)
+    (both_true (ltb (length c.handlers) 65536) (ltb (length c.attrs) 65536) (lt-ltb (length c.handlers) 65536 h.handlers) (lt-ltb (length c.attrs) 65536 h.attrs))
     (all_from is_inner_few IsInnerFew inner_from c.attrs h.each)
 
 pub few_to : (a : Attr CodeAttr) → has_few a ≡ true → HasFew a

@@ -2,13 +2,10 @@
 use Rattle.std.proofs.Common.{◌≡◌, ℕ, ◌+◌, ◌*◌, ◌-◌, ◌/◌, ◌%◌, ◌<◌, ◌≤◌, inl, inr, List, [], ◌∷◌, ◌++◌, refl, sym, ap, subst, ◌∙◌, append_assoc, arith}
 use Rattle.std.proofs.lemmas.List.{append-nil}
 use Rattle.std.proofs.lemmas.Bool.{cases_lt}
+use Rattle.jv_lists.proofs.Places.{heads}
 use Rattle.jv_bytes.specs.Numbers.{IsByteString}
 use Rattle.jv_bytes.proofs.NumberLaws.{IsByteString-cons, no_bytes}
 use Rattle.jv_bytes.specs.Utf8.{IsUnitText, Begins, IsText}
-
--- the items of equal lists
-heads : (x y : ℕ) (xs ys : List ℕ) → x ∷ xs ≡ y ∷ ys → (x ≡ y) × (xs ≡ ys)
-heads x y xs ys e = (cc, cc)
 
 -- no spelling of a unit begins another's
 pub one_front : (a b x y : List ℕ) (u v : ℕ) → IsUnitText a u → IsUnitText b v → a ++ x ≡ b ++ y → (a ≡ b) × (u ≡ v) × (x ≡ y)

@@ -3,6 +3,7 @@ use Rattle.std.proofs.Common.{◌≡◌, ℕ, ◌+◌, ◌^◌, ◌<◌, eqb, co
 use Rattle.std.specs.List.{AllByRecursion}
 use Rattle.std.proofs.lemmas.Bool.{eqb-true}
 use Rattle.std.proofs.lemmas.List.{append-nil, nil_from_length}
+use Rattle.jv_lists.proofs.Among.{all_from}
 use Rattle.jv_read.specs.Reading.{◌>>=◌, number_at}
 use Rattle.jv_read.proofs.Fronts.{bind_some, past_true, given_as, some_is, joined, number_takes, number_again}
 use Rattle.jv_read.proofs.Many.{counted_take, counted_again}
@@ -24,7 +25,6 @@ use Rattle.jv_class.specs.declared.layout.Declarations.{Declarations}
 use Rattle.jv_class.specs.ClassTexts.{IsU2, counted_text, member_text, class_text, IsMember, IsFewMember, HasParts, HasFewItems, HasFewParts, HasShortParts}
 use Rattle.jv_class.specs.Steps.PartWriting.{IsShortMember}
 use Rattle.jv_class.specs.Steps.LayoutReading.{attrs_at, member_at, members_at, indices_at, magic_at, opening_at, declarations_at, joined as joined_class, class_at, layout_at}
-use Rattle.jv_class.proofs.AllLemmas.{all_from}
 
 -- what gives no value gives nothing
 pub nothing_read : {A : Type 0} (o : Option A) → ((x : A) → o ≡ Some x → ⊥) → o ≡ None

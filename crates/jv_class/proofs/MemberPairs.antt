@@ -10,9 +10,11 @@ use Rattle.std.specs.Cmp.{IsTotalOrder}
 use Rattle.std.proofs.lemmas.Cmp.{then_total, on_total, nat_cmp_total, eq_by_cmp_equiv}
 use Rattle.std.proofs.lemmas.Map.Lookups.{exact_pairs, exact_unsigned}
 use Rattle.std.proofs.lemmas.Option.{slice_get_within}
+use Rattle.jv_lists.proofs.Tests.{is_eq-Equal}
+use Rattle.jv_lists.proofs.Among.{all_from}
 use Rattle.jv_read.proofs.Fronts.{some_is}
 use Rattle.jv_equality.specs.Equality.{TellsApart}
-use Rattle.jv_equality.proofs.Exact.{is_eq-Equal, told_apart}
+use Rattle.jv_equality.proofs.Exact.{told_apart}
 use Rattle.jv_pool.specs.declared.item.PoolItem.{PoolItem}
 use Rattle.jv_pool.specs.Lookups.{text_at, text_in}
 use Rattle.jv_class.specs.declared.class_file.Member.{Member}
@@ -20,7 +22,6 @@ use Rattle.jv_class.specs.ClassTexts.{IsField, IsMethodMember}
 use Rattle.jv_class.specs.Steps.MemberPairs.{number_at, pair_cmp, has, Adds, HasTexts, HaveTexts}
 use Rattle.jv_class.specs.Steps.PoolTexts.{NamesText}
 use Rattle.jv_class.specs.Steps.TextNumbers.{text_of, AreNumbers}
-use Rattle.jv_class.proofs.AllLemmas.{all_from}
 use Rattle.jv_class.proofs.ListLemmas.{got, no_some}
 
 -- ---- pairs

@@ -3,6 +3,7 @@
 use Rattle.std.proofs.Common.{◌≡◌, ℕ, zero, suc, ◌<◌, ◌≤◌, inl, inr, true, List, [], ◌∷◌, ◌++◌, length, Option, Some, None, refl, sym, ap, ◌∙◌, append_assoc, arith, length-append}
 use Rattle.std.specs.List.{flat_map}
 use Rattle.std.proofs.lemmas.List.{append-nil}
+use Rattle.jv_lists.proofs.Places.{heads}
 use Rattle.jv_types.specs.declared.desc.PrimType.{PrimType}
 use Rattle.jv_types.specs.declared.desc.RefType.{RefType, Class, PrimArray, Array}
 use Rattle.jv_types.specs.declared.desc.Desc.{Desc}
@@ -12,7 +13,7 @@ use Rattle.jv_desc.specs.Texts.{prim_letter, ref_text, ref_dims, is_named, IsDes
 use Rattle.jv_desc.specs.Steps.Reading.{ReadsDesc, ReadsParams}
 use Rattle.jv_desc.proofs.Layers.{ref_text-Array, ref_dims-Array, is_named-Array}
 use Rattle.jv_desc.proofs.Fronts.{Layer, layers, named-no_semicolon, one_end, same_letter, no_letter}
-use Rattle.jv_desc.proofs.RefReading.{heads, class_parts, array_parts, no_ref}
+use Rattle.jv_desc.proofs.RefReading.{class_parts, array_parts, no_ref}
 
 -- the letter of a primitive type begins no reference type
 pub no_ref_letter : (prim : PrimType) (x y : List ℕ) (type : RefType) → is_named type ≡ true → prim_letter prim ∷ x ≡ ref_text type ++ y → ⊥

@@ -1,5 +1,6 @@
 -- What the first byte says of a reference type in front.
 use Rattle.std.proofs.Common.{◌≡◌, ◌≢◌, ℕ, ◌-◌, ◌⊎◌, inl, inr, true, false, IsTrue, List, [], ◌∷◌, ◌++◌, sym, ap, subst, ◌∙◌, append_assoc, arith}
+use Rattle.jv_lists.proofs.Places.{heads}
 use Rattle.jv_types.specs.NameForms.{is_class_name}
 use Rattle.jv_types.specs.declared.desc.PrimType.{PrimType}
 use Rattle.jv_types.specs.declared.desc.RefType.{RefType, Class, PrimArray, Array}
@@ -7,10 +8,6 @@ use Rattle.jv_desc.specs.Texts.{prim_letter, ref_text}
 use Rattle.jv_desc.specs.Steps.Reading.{no_semicolon, ReadsRef}
 use Rattle.jv_desc.proofs.Layers.{ref_text-Array, ref_dims-Array, is_named-Array}
 use Rattle.jv_desc.proofs.Fronts.{layers, named-no_semicolon, one_end}
-
--- the items of equal lists
-pub heads : (x y : ℕ) (xs ys : List ℕ) → x ∷ xs ≡ y ∷ ys → (x ≡ y) × (xs ≡ ys)
-heads x y xs ys e = (cc, cc)
 
 -- the text of a class, and what follows it
 pub class_parts : (name rest : List ℕ) → ref_text (Class name) ++ rest ≡ 76 ∷ (name ++ 59 ∷ rest)

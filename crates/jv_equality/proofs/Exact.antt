@@ -1,5 +1,5 @@
 -- What `==` does not tell apart is one value: for lists, options and pairs of what has it, and for each plain type.
-use Rattle.std.proofs.Common.{◌≡◌, Bool, true, ◌&&◌, List, [], ◌∷◌, None, Some, Equal, Less, Greater, refl, sym, ap, subst, ◌∙◌}
+use Rattle.std.proofs.Common.{◌≡◌, Bool, true, ◌&&◌, List, [], ◌∷◌, None, Some, Equal, refl, sym, ap, subst, ◌∙◌}
 use Rattle.std.specs.declared.cmp.Ordering.{Ordering}
 use Rattle.std.specs.Ordering.{is_eq, eq_by_cmp, int_eq, nat_cmp}
 use Rattle.std.specs.Bool.{beq}
@@ -8,16 +8,12 @@ use Rattle.std.specs.Cmp.{IsEquivalence, unsigned_Decides, signed_Decides, boole
 use Rattle.std.specs.Cmp.Lexicographic.{pointwise, slice_cmp, same_text, texts_ties, nat_list_eq_equiv}
 use Rattle.std.specs.Option.{option_eq}
 use Rattle.std.proofs.lemmas.Bool.{and_parts, and_from}
+use Rattle.jv_lists.proofs.Tests.{is_eq-Equal}
 use Rattle.jv_equality.specs.Equality.{TellsApart, Ties}
 
 -- what the test does not tell apart is one value
 abbrev pub Exact : {K : Type 0} → (K → K → Bool) → Type 0
 Exact {K} E = (x y : K) → E x y ≡ true → x ≡ y
-
-pub is_eq-Equal : (o : Ordering) → is_eq o ≡ true → o ≡ Equal
-is_eq-Equal Less e = absurd cc
-is_eq-Equal Equal e = refl
-is_eq-Equal Greater e = absurd cc
 
 pub nats_exact : Exact nat_eq
 nats_exact x y e = (unsigned_Decides x y).0 e

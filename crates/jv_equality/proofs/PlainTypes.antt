@@ -3,6 +3,7 @@ use Rattle.std.proofs.Common.{◌≡◌, ℕ, true, List, refl, subst, rules}
 use Rattle.std.proofs.lemmas.Bool.{and_parts, false≢true}
 use Rattle.std.proofs.lemmas.Map.Lookups.{exact_bytes}
 use Rattle.std.proofs.Math.Bool.{Bool-set}
+use Rattle.jv_lists.proofs.Tests.{is_eq-Equal}
 use Rattle.jv_types.specs.Bodies.{rises_from}
 use Rattle.jv_types.specs.Types.{ref_key}
 use Rattle.jv_types.specs.Frames.{vtype_key}
@@ -52,7 +53,7 @@ use Rattle.jv_types.specs.contracts.rule.RulePartialEq as rule_eq
 use Rattle.jv_types.specs.contracts.refusal.RulePlacePartialEq as rule_place_eq
 use Rattle.jv_types.specs.contracts.refusal.RefusalPartialEq as refusal_eq
 use Rattle.jv_types.specs.contracts.quantity.QuantityPartialEq as quantity_eq
-use Rattle.jv_equality.proofs.Exact.{Exact, is_eq-Equal, nats_exact, ints_exact, bools_exact, texts_exact, lists_exact, options_exact, pairs_exact}
+use Rattle.jv_equality.proofs.Exact.{Exact, nats_exact, ints_exact, bools_exact, texts_exact, lists_exact, options_exact, pairs_exact}
 use Rattle.jv_equality.proofs.EqualTypes.{same_ref_key, same_vtype_key}
 
 pub access_exact : Exact access_eq.TheImpl.ghosts.eq

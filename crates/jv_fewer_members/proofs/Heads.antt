@@ -1,7 +1,8 @@
 -- What needs no members: names, kinds, links, subtypes and instances. It is the same in two lists whose classes have
 -- the same heads, place for place.
-use Rattle.std.proofs.Common.{◌≡◌, ℕ, zero, suc, ◌<◌, List, [], ◌∷◌, Some, length, Contains, slice_get, refl, sym, ap, ◌∙◌, subst, inl, inr, arith}
+use Rattle.std.proofs.Common.{◌≡◌, ℕ, zero, suc, ◌<◌, List, Some, length, Contains, slice_get, sym, ap, ◌∙◌, subst, inl, inr}
 use Rattle.std.proofs.lemmas.Option.{same_Some, slice_get_within}
+use Rattle.jv_lists.proofs.Places.{element_at}
 use Rattle.jv_types.specs.declared.desc.RefType.{RefType, Class, PrimArray, Array', Row_of-RefType, end_of-RefType, more_of-RefType}
 use Rattle.jv_types.specs.declared.label.LibBase.{LibBase}
 use Rattle.jv_types.specs.declared.label.LibBase.TheVariants.{Class as LibClass, Prim as LibPrim}
@@ -25,17 +26,12 @@ pub record IsSameHead (s t : Shape) : Type 0 where
 pub record SameHeads (w v : List Shape) : Type 0 where
   pub each : (c : ℕ) (s : Shape) → slice_get w c ≡ Some s → (t : Shape) × (slice_get v c ≡ Some t) × IsSameHead s t
 
-shape_of : (w : List Shape) (c : ℕ) → c < length w → (s : Shape) × (slice_get w c ≡ Some s)
-shape_of [] c lt = absurd (omega (arith, lt))
-shape_of (x ∷ xs) zero lt = (x, refl)
-shape_of (x ∷ xs) (suc c) lt = shape_of xs c (omega (arith, lt))
-
 module _ {w v : List Shape} {at : Places} (fewer : HasFewerMembers w v at) where
   -- the whole class of a part
   pub part_back : (c : ℕ) (part : Shape) → slice_get v c ≡ Some part → (s : Shape) × (slice_get w c ≡ Some s) × IsPartOf s part (at.of_field c) (at.of_method c)
   part_back c part got =
       let within : c < length w = subst (λ (n : ℕ). c < n) fewer.count (slice_get_within v c part got) in
-      let own = shape_of w c within in
+      let own = element_at w c within in
       let other = fewer.shapes c own.0 own.1 in
       (own.0, own.1, subst (λ (t : Shape). IsPartOf own.0 t (at.of_field c) (at.of_method c)) (same_Some other.0 part (sym other.1 ∙ got)) other.2)
 

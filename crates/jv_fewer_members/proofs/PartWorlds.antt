@@ -1,13 +1,13 @@
 -- The part of a world is a world.
-use Rattle.std.proofs.Common.{◌≡◌, ℕ, zero, suc, ◌<◌, ◌≤◌, ◌⊎◌, List, Option, Some, None, length, Contains, slice_get, refl, sym, ap, ◌∙◌, subst, inl, inr, arith}
+use Rattle.std.proofs.Common.{◌≡◌, ℕ, zero, suc, ◌<◌, ◌≤◌, ◌⊎◌, List, Option, Some, None, length, Contains, refl, sym, ◌∙◌, subst, inl, inr, arith}
 use Rattle.std.specs.Prelude.{◌↔◌, MatchOption}
-use Rattle.std.proofs.lemmas.Option.{slice_get-get_or, slice_get_within}
+use Rattle.std.proofs.lemmas.Option.{slice_get_within}
+use Rattle.jv_lists.proofs.Places.{placed, element_at}
 use Rattle.jv_types.specs.declared.shapes.Shape.{Shape}
 use Rattle.jv_world.specs.Worlds.{object_name, AreNumbered, HasRightSupers, IsAbsent, IsFinal, IsInterface, IsWorld}
 use Rattle.jv_resolve.proofs.PlacesLemmas.{among_from_get}
 use Rattle.jv_fewer_members.specs.Parts.{AreSomeOf, HasFewerMembers, HaveSameFinals, Places}
 use Rattle.jv_fewer_members.proofs.Heads.{heads_into, heads_back, named, part_back, super}
-use Rattle.jv_fewer_members.proofs.Somes.{element_of}
 
 -- ---- some elements of a list are no more than all
 
@@ -23,7 +23,7 @@ module _ {X : Type 0} {R : X → X → Type 0} {all some : List X} {at : ℕ →
   shorter_by zero e = omega arith
   shorter_by (suc k) e =
       let here : k < length some = omega (arith, e) in
-      let x = element_of some k here in
+      let x = element_at some k here in
       let y = part.each k x.0 x.1 in
       let within = slice_get_within all (at k) y.0 y.1 in
       let low = no_lower k here in
@@ -31,9 +31,6 @@ module _ {X : Type 0} {R : X → X → Type 0} {all some : List X} {at : ℕ →
 
   shorter : length some ≤ length all
   shorter = shorter_by (length some) refl
-
-placed : (v : List Shape) (s : Shape) (p : Contains v s) → slice_get v p.0 ≡ Some s
-placed v s p = slice_get-get_or v p.0 s p.1 ∙ ap (λ (x : Shape). Some x) p.2
 
 module _ {w v : List Shape} {at : Places} (fewer : HasFewerMembers w v at) (finals : HaveSameFinals w v) where
   part_numbered : AreNumbered v

@@ -1,14 +1,10 @@
 -- Some elements of a list: what stands first of its kind in the list, and among them.
-use Rattle.std.proofs.Common.{◌≡◌, ℕ, zero, suc, ◌<◌, List, [], ◌∷◌, Some, length, slice_get, refl, sym, ap, ◌∙◌, subst, inl, inr, arith}
+use Rattle.std.proofs.Common.{◌≡◌, ℕ, ◌<◌, List, Some, length, slice_get, sym, ap, ◌∙◌, subst, inl, inr, arith}
 use Rattle.std.proofs.lemmas.Bool.{cases_lt}
 use Rattle.std.proofs.lemmas.Option.{same_Some}
+use Rattle.jv_lists.proofs.Places.{element_at}
 use Rattle.jv_world.specs.MemberPlaces.{NoneBelow}
 use Rattle.jv_fewer_members.specs.Parts.{AreSomeOf}
-
-pub element_of : {X : Type 0} (xs : List X) (k : ℕ) → k < length xs → (x : X) × (slice_get xs k ≡ Some x)
-element_of [] k lt = absurd (omega (arith, lt))
-element_of (x ∷ xs) zero lt = (x, refl)
-element_of (x ∷ xs) (suc k) lt = element_of xs k (omega (arith, lt))
 
 module _ {X : Type 0} {R : X → X → Type 0} {all some : List X} {at : ℕ → ℕ} (part : AreSomeOf R all some at) where
   -- the order of the places is that of the elements
@@ -35,7 +31,7 @@ module _ {X : Type 0} {R : X → X → Type 0} {all some : List X} {at : ℕ →
       → (n : ℕ) → n < length some → NoneBelow P some n → NoneBelow P all (at n)
   none_into P same among n here none j y lt got p =
       let r = among j y got p in
-      let x = element_of some r.0 r.2 in
+      let x = element_at some r.0 r.2 in
       let other = part.each r.0 x.0 x.1 in
       let is : other.0 ≡ y = same_Some other.0 y (sym other.1 ∙ ap (slice_get all) (sym r.1) ∙ got) in
       none r.0 x.0 (before r.0 n r.2 here (subst (λ (i : ℕ). i < at n) r.1 lt)) x.1 (same other.0 x.0 other.2 (subst P (sym is) p))

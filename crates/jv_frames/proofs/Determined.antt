@@ -1,11 +1,12 @@
 -- What is written is one thing: types, and the types of a frame.
-use Rattle.std.proofs.Common.{◌≡◌, ℕ, ◌+◌, ◌-◌, ◌<◌, ◌∷◌, ◌++◌, [], zero, suc, List, length, take, get_or, Option, Some, None, Result, refl, sym, ap, ◌∙◌, subst, arith}
+use Rattle.std.proofs.Common.{◌≡◌, ℕ, ◌+◌, ◌-◌, ◌<◌, ◌++◌, List, length, take, get_or, Option, Some, None, Result, sym, ap, ◌∙◌, subst, arith}
 use Rattle.std.specs.Prelude.{MatchOption}
 use Rattle.std.specs.List.{AllZip}
-use Rattle.std.proofs.lemmas.List.{take_more, length-append}
+use Rattle.std.proofs.lemmas.List.{length-append}
 use Rattle.std.proofs.Math.Seq.{take-append_seam}
 use Rattle.std.specs.declared.alloc.Global.{Global}
 use Rattle.std.specs.declared.vec.Vec.{Vec}
+use Rattle.jv_lists.proofs.Zips.{zip_at, one_zip}
 use Rattle.jv_table.specs.declared.class_tables.FrameGroup.{FrameGroup}
 use Rattle.jv_table.specs.declared.class_tables.FrameGroup.TheVariants.{Same, SameOne, SameOneExtended, Chop, SameExtended, Append, Full}
 use Rattle.jv_types.specs.declared.desc.RefType.{RefType}
@@ -25,36 +26,6 @@ use Rattle.jv_frames.specs.Finding.{FindsList}
 use Rattle.jv_frames.specs.Maps.{plain_type, IsNumbered, object, uninit, IsTypeOf, IsFront, AreLocalsIn, HasTypes, FitsBody, IsMapFrame}
 
 -- ---- lists, place by place
-
--- what stands at a place has its partner
-pub zip_has : {A B : Type 0} (R : A → B → Type 0) (xs : List A) (ys : List B) (i : ℕ) (d : A) → AllZip R xs ys → i < length xs → (y : B) × R (get_or xs i d) y
-zip_has R [] ys i d zip here = absurd (omega arith)
-zip_has R (x ∷ xs) [] i d zip here = absurd zip
-zip_has R (x ∷ xs) (y ∷ ys) zero d zip here = (y, zip.0)
-zip_has R (x ∷ xs) (y ∷ ys) (suc i) d zip here = zip_has R xs ys i d zip.1 (omega arith)
-
-zip_push : {A B : Type 0} (R : A → B → Type 0) (xs : List A) (ys : List B) (x : A) (y : B) → AllZip R xs ys → R x y → AllZip R (xs ++ x ∷ []) (ys ++ y ∷ [])
-zip_push R [] [] x y zip here = (here, tt)
-zip_push R [] (b ∷ ys) x y zip here = absurd zip
-zip_push R (a ∷ xs) [] x y zip here = absurd zip
-zip_push R (a ∷ xs) (b ∷ ys) x y zip here = (zip.0, zip_push R xs ys x y zip.1 here)
-
--- one more place
-pub zip_more : {A B : Type 0} (R : A → B → Type 0) (xs : List A) (ys : List B) (i : ℕ) (d : A) (y : B) → i < length xs → AllZip R (take i xs) ys → R (get_or xs i d) y
-    → AllZip R (take (i + 1) xs) (ys ++ y ∷ [])
-zip_more R xs ys i d y below zip here = rw (take_more xs i d below) (zip_push R (take i xs) ys (get_or xs i d) y zip here)
-
--- partners are one list
-pub one_list : {A B : Type 0} (R : A → B → Type 0) → ((x : A) (y z : B) → R x y → R x z → y ≡ z) → (xs : List A) (ys zs : List B) → AllZip R xs ys → AllZip R xs zs → ys ≡ zs
-one_list R one [] [] [] h k = refl
-one_list R one [] (y ∷ ys) zs h k = absurd h
-one_list R one [] [] (z ∷ zs) h k = absurd k
-one_list R one (x ∷ xs) [] zs h k = absurd h
-one_list R one (x ∷ xs) (y ∷ ys) [] h k = absurd k
-one_list R one (x ∷ xs) (y ∷ ys) (z ∷ zs) h k =
-    let first : y ≡ z = one x y z h.0 k.0 in
-    let rest : ys ≡ zs = one_list R one xs ys zs h.1 k.1 in
-    cc
 
 -- ---- written types
 
@@ -89,7 +60,7 @@ numbered_found pool t r none found =
 -- where one is none, they all aren't
 pub list_none : {A B : Type 0} (R : A → B → Type 0) (xs : List A) (i : ℕ) (d : A) (e : ReadFault) → i < length xs → NoneFor (λ (y : B). R (get_or xs i d) y) e → NoneFor (AllZip R xs) e
 list_none R xs i d faults.Memory here none = tt
-list_none R xs i d faults.Bad here none = λ ys zip. let at = zip_has R xs ys i d zip here in none at.0 at.1
+list_none R xs i d faults.Bad here none = λ ys zip. let at = zip_at R xs ys i d zip here in none at.0 at.1
 
 -- ---- a frame's types
 
@@ -108,15 +79,15 @@ one_locals pool before f (Some SameOneExtended) a b h k = h ∙ sym k
 one_locals pool before f (Some SameExtended) a b h k = h ∙ sym k
 one_locals pool before f (Some Chop) a b h k = one_front before (251 - f.kind) a b h k
 one_locals pool before f (Some Append) a b h k =
-    h.2 ∙ ap (λ more. before ++ more) (one_list (IsTypeOf pool) (one_written pool) f.locals h.0 k.0 h.1 k.1) ∙ sym k.2
-one_locals pool before f (Some Full) a b h k = one_list (IsTypeOf pool) (one_written pool) f.locals a b h k
+    h.2 ∙ ap (λ more. before ++ more) (one_zip (IsTypeOf pool) (one_written pool) f.locals h.0 k.0 h.1 k.1) ∙ sym k.2
+one_locals pool before f (Some Full) a b h k = one_zip (IsTypeOf pool) (one_written pool) f.locals a b h k
 
 -- a frame has one list of types of local variables, and one of stack items
 pub one_frame_locals : (pool : List PoolItem) (before : List VType) (f : MapFrame) (a s b t : List VType) → HasTypes pool before f a s → HasTypes pool before f b t → a ≡ b
 one_frame_locals pool before f a s b t h k = one_locals pool before f (group_of f.kind) a b h.locals_are k.locals_are
 
 pub one_frame_stack : (pool : List PoolItem) (before : List VType) (f : MapFrame) (a s b t : List VType) → HasTypes pool before f a s → HasTypes pool before f b t → s ≡ t
-one_frame_stack pool before f a s b t h k = one_list (IsTypeOf pool) (one_written pool) f.stack s t h.stack_is k.stack_is
+one_frame_stack pool before f a s b t h k = one_zip (IsTypeOf pool) (one_written pool) f.stack s t h.stack_is k.stack_is
 
 -- what is found for a group is found for the frame's
 pub by_group : (pool : List PoolItem) (before : List VType) (f : MapFrame) (g : FrameGroup) (r : Result (Vec VType Global) ReadFault) → group_of f.kind ≡ Some g

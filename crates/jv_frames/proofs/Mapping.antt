@@ -1,6 +1,7 @@
 -- The frames of a map, one after the other.
-use Rattle.std.proofs.Common.{◌≡◌, ℕ, suc, ◌+◌, ◌<◌, ◌≤◌, List, [], ◌∷◌, ◌++◌, length, drop, get_or, append_assoc, refl, sym, ap, ◌∙◌, subst, inl, inr, arith, add-one, drop-cons}
+use Rattle.std.proofs.Common.{◌≡◌, ℕ, ◌+◌, ◌<◌, ◌≤◌, List, [], ◌∷◌, ◌++◌, length, drop, get_or, append_assoc, refl, sym, ap, ◌∙◌, subst, inl, inr, arith}
 use Rattle.std.proofs.lemmas.List.{drop_all, append-nil}
+use Rattle.jv_lists.proofs.Places.{drop_one}
 use Rattle.jv_types.specs.declared.body.Body.{Body}
 use Rattle.jv_types.specs.declared.frames.VType.{VType}
 use Rattle.jv_types.specs.declared.frames.Frame.{Frame}
@@ -10,11 +11,6 @@ use Rattle.jv_frames.specs.Types.{frame_of}
 use Rattle.jv_frames.specs.Maps.{frame_delta, IsMapFrame, IsNoMapFrame, AreMapFrames, IsFirstBad}
 use Rattle.jv_frames.specs.Steps.Mapping.{GoesOn}
 
--- what is left begins with the next frame
-left : (frames : List MapFrame) (n : ℕ) (f : MapFrame) → n < length frames → f ≡ get_or frames n f → drop n frames ≡ f ∷ drop (n + 1) frames
-left frames n f below is =
-    rw (add-one) (drop-cons frames n f below ∙ ap (λ (x : MapFrame). x ∷ drop (suc n) frames) (sym is))
-
 pub begins : (pool : List PoolItem) (body : Body) (entry : List VType) (frames : List MapFrame) → GoesOn pool body entry frames 0 entry [] 0
 begins pool body entry frames = record { base_fits = omega arith; makes = λ rest h. h; fails = λ pc h. h }
 
@@ -23,7 +19,7 @@ pub goes_on : (pool : List PoolItem) (body : Body) (entry : List VType) (frames 
     → IsMapFrame pool body base before f locals stack → frame ≡ frame_of body.max_locals locals stack
     → GoesOn pool body entry frames (pc + 1) locals (rows ++ (pc, frame) ∷ []) (n + 1)
 goes_on pool body entry frames base before rows n f locals stack pc frame below is so_far at within made framed =
-    let next = left frames n f below is in
+    let next = drop_one frames n f below is in
     let row : ℕ × Frame = (pc, frame) in
     record {
       base_fits = omega arith;
@@ -42,7 +38,7 @@ pub goes_bad : (pool : List PoolItem) (body : Body) (entry : List VType) (frames
     → IsFirstBad pool body 0 entry frames pc
 goes_bad pool body entry frames base before rows n f pc below is so_far at none =
     let now : IsFirstBad pool body base before (f ∷ drop (n + 1) frames) pc = inl (at, none) in
-    so_far.fails pc (subst (λ (fs : List MapFrame). IsFirstBad pool body base before fs pc) (sym (left frames n f below is)) now)
+    so_far.fails pc (subst (λ (fs : List MapFrame). IsFirstBad pool body base before fs pc) (sym (drop_one frames n f below is)) now)
 
 pub ends : (pool : List PoolItem) (body : Body) (entry : List VType) (frames : List MapFrame) (base : ℕ) (before : List VType) (rows : List (ℕ × Frame)) (n : ℕ) → length frames ≤ n
     → GoesOn pool body entry frames base before rows n → AreMapFrames pool body 0 entry frames rows

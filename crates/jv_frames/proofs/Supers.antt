@@ -1,7 +1,8 @@
 -- What is above Object and above an interface: interfaces and Object.
-use Rattle.std.proofs.Common.{◌≡◌, ℕ, zero, suc, ◌+◌, ◌⊎◌, ◌<◌, ◌≤◌, List, Some, None, Option, Contains, slice_get, unwrap_or, refl, sym, ap, ◌∙◌, subst, inl, inr, arith}
-use Rattle.std.proofs.lemmas.Option.{same_Some, slice_get_within, unwrap_or-slice_get}
+use Rattle.std.proofs.Common.{◌≡◌, ℕ, zero, suc, ◌+◌, ◌⊎◌, ◌<◌, ◌≤◌, List, Some, None, Option, Contains, slice_get, refl, sym, ap, ◌∙◌, subst, inl, inr, arith}
+use Rattle.std.proofs.lemmas.Option.{same_Some}
 use Rattle.std.specs.Prelude.{MatchOption}
+use Rattle.jv_lists.proofs.Places.{among_at}
 use Rattle.jv_types.specs.declared.shapes.Shape.{Shape}
 use Rattle.jv_world.specs.Worlds.{object_name, IsNamed, IsInterface, IsFinal, HasSuperclass, HasSuper, IsWorld, Sub, same, link}
 use Rattle.jv_world.specs.Instances.{IsSubNamed, IsInterfaceNamed}
@@ -31,10 +32,6 @@ parent_of shape = by shape.parent refl
     by None e = has_none e
     by (Some name) e = has_one name e
 
--- what stands at a place is of the list
-Contains-at : {X : Type 0} (xs : List X) (k : ℕ) (x : X) → slice_get xs k ≡ Some x → Contains xs x
-Contains-at xs k x at = (k, slice_get_within xs k x at, sym (unwrap_or-slice_get xs k x) ∙ ap (λ (o : Option _). unwrap_or o x) at)
-
 -- Object is above a class of a rank below n, put as what can't fail
 abbrev LiesBelow : (w : List Shape) → IsWorld w → ℕ → Type 0
 LiesBelow w world n =
@@ -43,7 +40,7 @@ LiesBelow w world n =
 LiesBelow-by : (w : List Shape) (world : IsWorld w) (n c : ℕ) (shape : Shape) → LiesBelow w world n → world.rank c < n + 1 → slice_get w c ≡ Some shape
     → ((o : ℕ) → IsNamed w o object_name → Sub w c o → ⊥) → Parent shape → ⊥
 LiesBelow-by w world n c shape lower below at none (has_none e) =
-    let right = (world.right_supers shape (Contains-at w c shape at)).superclass in
+    let right = (world.right_supers shape (among_at w c shape at)).superclass in
     let P : Option (List ℕ) → Type 0 =
     λ p. MatchOption p (shape.name ≡ object_name) (λ name. (other : Shape) → Contains w other → other.name ≡ name → (IsInterface other → ⊥) × (IsFinal other → ⊥)) in
     none c (shape, at, subst P e right) (same c c refl)
@@ -51,7 +48,7 @@ LiesBelow-by w world n c shape lower below at none (has_one name e) =
     world.none_absent name
     (record {
       shape = shape;
-      here = Contains-at w c shape at;
+      here = among_at w c shape at;
       names = inl e;
       nowhere = λ d named.
           let up : HasSuper w c d = inl (shape, name, at, e, named) in
@@ -83,15 +80,15 @@ IsTop-link : (w : List Shape) → IsWorld w → (c m : ℕ) → HasSuper w c m �
 IsTop-link w world c m (inl super) (inl named) = absurd (Object_is_top w world c m named super)
 IsTop-link w world c m (inl super) (inr interface) =
     let own : interface.0 ≡ super.0 = same_Some interface.0 super.0 (sym interface.1 ∙ super.2) in
-    let right = world.right_supers super.0 (Contains-at w c super.0 super.2) in
+    let right = world.right_supers super.0 (among_at w c super.0 super.2) in
     let parent : super.0.parent ≡ Some object_name = right.of_interface (subst IsInterface own interface.2) in
     let name : super.1 ≡ object_name = same_Some super.1 object_name (sym super.3 ∙ parent) in
     inl (subst (IsNamed w m) name super.4)
 IsTop-link w world c m (inr super) top =
-    let right = world.right_supers super.0 (Contains-at w c super.0 super.2) in
+    let right = world.right_supers super.0 (among_at w c super.0 super.2) in
     let named = super.4 in
     inr
-    (named.0, named.1, right.superinterfaces named.0 (Contains-at w m named.0 named.1) (subst (λ (x : List ℕ). Contains super.0.interfaces x) (sym named.2) super.3))
+    (named.0, named.1, right.superinterfaces named.0 (among_at w m named.0 named.1) (subst (λ (x : List ℕ). Contains super.0.interfaces x) (sym named.2) super.3))
 
 IsTop-sub : (w : List Shape) → IsWorld w → (c d : ℕ) → Sub w c d → IsTop w c → IsTop w d
 IsTop-sub w world c d (same _ _ is) top = subst (IsTop w) is top

@@ -1,5 +1,5 @@
 -- Types and frames that are written as the standard says are types and frames.
-use Rattle.std.proofs.Common.{◌≡◌, ℕ, zero, suc, ◌-◌, ◌⊎◌, Bool, true, false, IsTrue, cond, List, [], ◌∷◌, ◌++◌, length, take, drop, Option, Some, None, slice_get, refl, sym, ap, ◌∙◌, subst, inl, inr, arith}
+use Rattle.std.proofs.Common.{◌≡◌, ℕ, ◌-◌, ◌⊎◌, Bool, true, false, IsTrue, cond, List, [], ◌∷◌, ◌++◌, length, take, drop, Option, Some, None, slice_get, refl, sym, ap, ◌∙◌, subst, inl, inr, arith}
 use Rattle.std.specs.Prelude.{◌==◌, MatchOption, option_map, option_and_then}
 use Rattle.std.specs.Option.{option_map_or}
 use Rattle.std.specs.List.{AllZip, AllByRecursion}
@@ -7,6 +7,7 @@ use Rattle.std.specs.Ordering.{nat_cmp, is_eq}
 use Rattle.std.proofs.lemmas.List.{take-append-drop, length-drop}
 use Rattle.std.proofs.lemmas.Bool.{false≢true}
 use Rattle.std.proofs.lemmas.Bool.Decides.{nat_tests}
+use Rattle.jv_lists.proofs.Places.{each_at}
 use Rattle.jv_table.specs.Rows.{row_of}
 use Rattle.jv_table.specs.ClassRows.{type_tag_rows}
 use Rattle.jv_table.specs.declared.class_tables.TypeRow.{TypeRow}
@@ -33,18 +34,13 @@ use Rattle.jv_frames.specs.Maps.{plain_type, IsNumbered, object, uninit, IsTypeO
 
 -- ---- what a class of the pool names
 
-every : {X : Type 0} (P : X → Type 0) (xs : List X) (k : ℕ) (x : X) → AllByRecursion P xs → slice_get xs k ≡ Some x → P x
-every P [] k x all at = absurd cc
-every P (y ∷ xs) zero x all at = let same : y ≡ x = cc in subst P same all.0
-every P (y ∷ xs) (suc k) x all at = every P xs k x all.1 at
-
 -- the item of an index keeps the rules on names
 named_item : (pool : List PoolItem) (i : ℕ) (item : PoolItem) → IsNamedPool pool → item_at pool i ≡ Some item → IsNamedItem pool item
 named_item pool i item named at = by_zero (i == 0) at
   where
     by_zero : (b : Bool) → cond b None (slice_get pool (i - 1)) ≡ Some item → IsNamedItem pool item
     by_zero true e = absurd cc
-    by_zero false e = every (IsNamedItem pool) pool (i - 1) item named e
+    by_zero false e = each_at (IsNamedItem pool) pool (i - 1) item named e
 
 is_class_item : (item : PoolItem) → is_class item ≡ true → (name : ℕ) × (item ≡ items.Class name)
 is_class_item (items.Class name) e = (name, refl)

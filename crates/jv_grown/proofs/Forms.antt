@@ -1,20 +1,15 @@
 -- A pool stays one when an item whose parts stand comes behind.
-use Rattle.std.proofs.Common.{◌≡◌, ℕ, zero, suc, ◌-◌, Bool, true, false, cond, eqb, ◌&&◌, List, [], ◌∷◌, ◌++◌, Option, Some, None, refl, sym, subst}
+use Rattle.std.proofs.Common.{◌≡◌, ℕ, ◌-◌, Bool, true, false, cond, eqb, ◌&&◌, List, [], ◌∷◌, ◌++◌, Option, Some, None, refl, sym, subst}
 use Rattle.std.specs.Option.{option_map_or}
 use Rattle.std.specs.List.{slice_get, AllByRecursion}
 use Rattle.std.proofs.lemmas.Bool.{and_parts, and_from}
-use Rattle.std.proofs.lemmas.Option.{none-some}
+use Rattle.jv_lists.proofs.Among.{all_from}
+use Rattle.jv_lists.proofs.Places.{get_front}
 use Rattle.jv_pool.specs.declared.item.PoolItem.{PoolItem}
 use Rattle.jv_pool.specs.declared.item.PoolItem.TheVariants as items
 use Rattle.jv_pool.specs.Lookups.{names, is_utf8, is_class, is_name_and_type}
 use Rattle.jv_pool.specs.PoolText.{IsItem, IsPool, HasHoles, is_hole, is_wide, is_linked, is_handled}
 use Rattle.jv_pool.specs.Adding.{slots_of}
-
--- what stands at a place stands there still
-pub got_more : (xs more : List PoolItem) (j : ℕ) (x : PoolItem) → slice_get xs j ≡ Some x → slice_get (xs ++ more) j ≡ Some x
-got_more [] more j x e = absurd (none-some x e)
-got_more (y ∷ ys) more zero x e = e
-got_more (y ∷ ys) more (suc j) x e = got_more ys more j x e
 
 -- what an index names it names still
 names_more : (test : PoolItem → Bool) (xs more : List PoolItem) (i : ℕ) → names test xs i ≡ true → names test (xs ++ more) i ≡ true
@@ -22,7 +17,7 @@ names_more test xs more i h = by_zero (eqb i 0) h
   where
     by_item : (o : Option PoolItem) → slice_get xs (i - 1) ≡ o → option_map_or test o false ≡ true → option_map_or test (slice_get (xs ++ more) (i - 1)) false ≡ true
     by_item None e h = absurd cc
-    by_item (Some x) e h = rw (got_more xs more (i - 1) x e) h
+    by_item (Some x) e h = rw (get_front xs more (i - 1) x e) h
 
     by_zero : (b : Bool) → option_map_or test (cond b None (slice_get xs (i - 1))) false ≡ true → option_map_or test (cond b None (slice_get (xs ++ more) (i - 1))) false ≡ true
     by_zero true h = absurd cc
@@ -52,10 +47,6 @@ linked_more xs more (items.InvokeDynamic bootstrap pair) h = names_more is_name_
 linked_more xs more items.Hole h = refl
 
 -- ---- all items
-
-all_map : (P Q : PoolItem → Type 0) → ((x : PoolItem) → P x → Q x) → (xs : List PoolItem) → AllByRecursion P xs → AllByRecursion Q xs
-all_map P Q f [] h = tt
-all_map P Q f (x ∷ xs) h = (f x h.0, all_map P Q f xs h.1)
 
 all_append : (P : PoolItem → Type 0) (xs ys : List PoolItem) → AllByRecursion P xs → AllByRecursion P ys → AllByRecursion P (xs ++ ys)
 all_append P [] ys h k = k
@@ -89,6 +80,6 @@ form_kept xs item h fits linked whole =
       each = all_append IsItem xs (slots_of item) h.each (all_slots IsItem item fits tt);
       holes = holes_append false xs (slots_of item) h.holes (holes_slots item whole);
       linked = all_append (λ (x : PoolItem). is_linked all x ≡ true) xs (slots_of item)
-          (all_map (λ (x : PoolItem). is_linked xs x ≡ true) (λ (x : PoolItem). is_linked all x ≡ true) (λ x l. linked_more xs (slots_of item) x l) xs h.linked)
+          (all_from (λ (x : PoolItem). is_linked xs x ≡ true) (λ (x : PoolItem). is_linked all x ≡ true) (λ x l. linked_more xs (slots_of item) x l) xs h.linked)
           (all_slots (λ (x : PoolItem). is_linked all x ≡ true) item (linked_more xs (slots_of item) item linked) refl);
     }

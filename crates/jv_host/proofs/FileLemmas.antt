@@ -3,37 +3,15 @@ use Rattle.std.proofs.Common.{◌≡◌, ◌<◌, ◌≤◌, ◌⊎◌, inl, inr
 use Rattle.std.specs.List.{AllByRecursion, IsDistinct}
 use Rattle.std.specs.Cmp.Lexicographic.{bytes_decides}
 use Rattle.std.proofs.lemmas.List.{take_all, length-take}
-use Rattle.std.proofs.lemmas.List.Elements.{Contains-append_left, Contains-append_right, Contains-append_cases, Contains-push, Contains-push_cases}
+use Rattle.std.proofs.lemmas.List.Elements.{Contains-append_left, Contains-append_right, Contains-push, Contains-push_cases}
+use Rattle.jv_lists.proofs.Among.{none_there, first_or_later, of_each}
 use Rattle.jv_host.specs.declared.host.HostFile.{HostFile}
 use Rattle.jv_host.specs.Files.{HasNoTwins, bytes_of, is_file}
 
--- nothing is an element of the empty list
-none_in_empty : {X : Type 0} (x : X) → Contains [] x → ⊥
-none_in_empty x h = let below : h.0 < 0 = h.1 in omega arith
-
 -- an element of a list of one is that one
 only_one : {X : Type 0} (x y : X) → Contains [] y ⊎ (x ≡ y) → x ≡ y
-only_one x y (inl among) = absurd (none_in_empty y among)
+only_one x y (inl among) = absurd (none_there y among)
 only_one x y (inr is) = is
-
--- an element of a list is its first or one of the others, from where it stands
-first_or_other_by : {X : Type 0} (x : X) (xs : List X) (y : X) → Contains (x ∷ []) y ⊎ Contains xs y → (x ≡ y) ⊎ Contains xs y
-first_or_other_by x xs y (inl among) = inl (only_one x y (Contains-push_cases [] x y among))
-first_or_other_by x xs y (inr among) = inr among
-
--- an element of a list is its first or one of the others
-first_or_other : {X : Type 0} (x : X) (xs : List X) (y : X) → Contains (x ∷ xs) y → (x ≡ y) ⊎ Contains xs y
-first_or_other x xs y h = first_or_other_by x xs y (Contains-append_cases (x ∷ []) xs y h)
-
--- what holds of each holds of an element
-at_element_by : {X : Type 0} (P : X → Type 0) (x : X) (xs : List X) (y : X) → P x → (Contains xs y → P y) → (x ≡ y) ⊎ Contains xs y → P y
-at_element_by P x xs y first others (inl is) = subst P is first
-at_element_by P x xs y first others (inr among) = others among
-
--- what holds of each holds of an element
-at_element : {X : Type 0} (P : X → Type 0) (xs : List X) (y : X) → AllByRecursion P xs → Contains xs y → P y
-at_element P [] y all among = absurd (none_in_empty y among)
-at_element P (x ∷ xs) y all among = at_element_by P x xs y all.0 (λ other. at_element P xs y all.1 other) (first_or_other x xs y among)
 
 -- both tests have passed where both together have
 both_passed : (s t : Bool) → (s && t) ≡ true → (s ≡ true) × (t ≡ true)
@@ -95,7 +73,7 @@ pub bytes_of-None : (files : List HostFile) (file : HostFile) → bytes_of files
 unfolding bytes_of
 bytes_of-None files file e among =
     let none = not_found (is_file file.root file.name) files (nothing_found (find (is_file file.root file.name) files) e) in
-    true≢false (sym (is_itself file) ∙ at_element (λ y. is_file file.root file.name y ≡ false) files file none among)
+    true≢false (sym (is_itself file) ∙ of_each (λ y. is_file file.root file.name y ≡ false) files file none among)
 
 -- the first file comes first
 bytes-first : (first : HostFile) (others : List HostFile) (file : HostFile) → first ≡ file → bytes_of (first ∷ others) file.root file.name ≡ Some file.bytes
@@ -110,13 +88,13 @@ bytes-other first others file differ e = rw differ e
 -- a file is the one of its root and name, at the first
 bytes_by : (first : HostFile) (others : List HostFile) (file : HostFile) → AllByRecursion (λ y. is_file y.root y.name first ≡ false) others → (Contains others file → bytes_of others file.root file.name ≡ Some file.bytes) → (first ≡ file) ⊎ Contains others file → bytes_of (first ∷ others) file.root file.name ≡ Some file.bytes
 bytes_by first others file apart behind (inl is) = bytes-first first others file is
-bytes_by first others file apart behind (inr among) = bytes-other first others file (at_element (λ y. is_file y.root y.name first ≡ false) others file apart among) (behind among)
+bytes_by first others file apart behind (inr among) = bytes-other first others file (of_each (λ y. is_file y.root y.name first ≡ false) others file apart among) (behind among)
 
 -- where no two files share root and name, each file's bytes are those of its root and name
 pub bytes_of-file : (files : List HostFile) (file : HostFile) → HasNoTwins files → Contains files file → bytes_of files file.root file.name ≡ Some file.bytes
 unfolding IsDistinct
-bytes_of-file [] file h among = absurd (none_in_empty file among)
-bytes_of-file (first ∷ others) file h among = bytes_by first others file h.0 (λ other. bytes_of-file others file h.1 other) (first_or_other first others file among)
+bytes_of-file [] file h among = absurd (none_there file among)
+bytes_of-file (first ∷ others) file h among = bytes_by first others file h.0 (λ other. bytes_of-file others file h.1 other) (first_or_later first others file among)
 
 -- a read that found nothing says that there is no such file
 pub absent_from_read : (most : ℕ) (o : Option (List ℕ)) → None ≡ option_map (take most) o → o ≡ None

@@ -1,19 +1,15 @@
 -- When files have no twins, by the first of them.
-use Rattle.std.proofs.Common.{◌≡◌, ◌↔◌, Bool, true, false, ◌||◌, List, [], ◌∷◌, sym, ◌∙◌, true≢false, refl}
+use Rattle.std.proofs.Common.{◌≡◌, ◌↔◌, Bool, true, false, List, [], ◌∷◌, sym, ◌∙◌, true≢false, refl}
 use Rattle.std.specs.List.{AllByRecursion, IsDistinct, list_any}
+use Rattle.jv_lists.proofs.Tests.{both_false}
 use Rattle.jv_host.specs.declared.host.HostFile.{HostFile}
 use Rattle.jv_host.specs.Files.{HasNoTwins, is_file}
-
--- both tests have failed where one or the other has
-both_failed : (s t : Bool) → (s || t) ≡ false → (s ≡ false) × (t ≡ false)
-both_failed true t h = absurd (true≢false h)
-both_failed false t h = (refl, h)
 
 -- a test that fails at each element passes at none
 none_passes : {X : Type 0} (test : X → Bool) (xs : List X) → list_any test xs ≡ false → AllByRecursion (λ x. test x ≡ false) xs
 none_passes test [] h = tt
 none_passes test (x ∷ xs) h =
-    let parts = both_failed (test x) (list_any test xs) h in
+    let parts = both_false (test x) (list_any test xs) h in
     (parts.0, none_passes test xs parts.1)
 
 -- a test that passes at none fails at each element

@@ -6,6 +6,7 @@ use Rattle.std.specs.List.{AllZip, list_all}
 use Rattle.std.specs.Ordering.{nat_cmp}
 use Rattle.std.proofs.lemmas.Bool.{eqb-true, eqb-false, ltb-true, ltb-false}
 use Rattle.std.proofs.lemmas.List.Elements.{Contains-append_right}
+use Rattle.jv_lists.proofs.Among.{is_first}
 use Rattle.jv_table.specs.Rows.{row_of}
 use Rattle.jv_table.specs.CodeRows.{OpForm, newarray_rows}
 use Rattle.jv_table.specs.declared.code_tables.Form.{Form}
@@ -128,9 +129,6 @@ lead_or rows pc offset = by (pos pc +ℤ offset) refl
 abbrev SomeNowhere : List (ℕ × Written) → ℕ → List ℤ → Type 0
 SomeNowhere rows pc offsets = (offset : ℤ) × Contains offsets offset × NoTarget rows pc offset
 
-first_in : (offset : ℤ) (offsets : List ℤ) → Contains (offset ∷ offsets) offset
-first_in offset offsets = (0, omega arith, refl)
-
 later_in : (first offset : ℤ) (offsets : List ℤ) → Contains offsets offset → Contains (first ∷ offsets) offset
 later_in first offset offsets c = Contains-append_right (first ∷ []) offsets offset c
 
@@ -141,7 +139,7 @@ leads_or rows pc (offset ∷ offsets) = elim (lead_or rows pc offset) [
     | inl ts ↦ inl (t.0 ∷ ts.0, (t.1, ts.1))
     | inr n ↦ inr (n.0, later_in offset n.0 offsets n.1, n.2)
   ]
-  | inr none ↦ inr (offset, first_in offset offsets, none)
+  | inr none ↦ inr (offset, is_first offset offsets, none)
 ]
 
 abbrev case_offsets : List (ℤ × ℤ) → List ℤ
@@ -154,7 +152,7 @@ cases_or rows pc (case ∷ cases) = elim (lead_or rows pc case.1) [
     | inl ts ↦ inl ((case.0, t.0) ∷ ts.0, (record { value = refl; leads = t.1 }, ts.1))
     | inr n ↦ inr (n.0, later_in case.1 n.0 (case_offsets cases) n.1, n.2)
   ]
-  | inr none ↦ inr (case.1, first_in case.1 (case_offsets cases), none)
+  | inr none ↦ inr (case.1, is_first case.1 (case_offsets cases), none)
 ]
 
 -- ---- an instruction
@@ -268,7 +266,7 @@ module _ (pool : List PoolItem) (linked : AreLinked pool) (named : IsNamedPool p
     jump_or : (form : Form) (offset : ℤ) → here.operands ≡ written.Jump offset → Named form (written.Jump offset) ⊎ Caused
     jump_or form offset is = elim (lead_or rows pc offset) [
       | inl t ↦ inl (args.Jump t.0, (t.0, refl, t.1))
-      | inr none ↦ inr (nowhere (written.Jump offset) is (offset, first_in offset [], none))
+      | inr none ↦ inr (nowhere (written.Jump offset) is (offset, is_first offset [], none))
     ]
 
     table_or : (form : Form) (default low : ℤ) (offsets : List ℤ) → here.operands ≡ written.Table default low offsets → Named form (written.Table default low offsets) ⊎ Caused
@@ -277,7 +275,7 @@ module _ (pool : List PoolItem) (linked : AreLinked pool) (named : IsNamedPool p
         | inl ts ↦ inl (args.Table t.0 low ts.0, (t.0, ts.0, refl, t.1, ts.1))
         | inr n ↦ inr (nowhere (written.Table default low offsets) is (n.0, later_in default n.0 offsets n.1, n.2))
       ]
-      | inr none ↦ inr (nowhere (written.Table default low offsets) is (default, first_in default offsets, none))
+      | inr none ↦ inr (nowhere (written.Table default low offsets) is (default, is_first default offsets, none))
     ]
 
     lookup_or : (form : Form) (default : ℤ) (cases : List (ℤ × ℤ)) → here.operands ≡ written.Lookup default cases → Named form (written.Lookup default cases) ⊎ Caused
@@ -286,7 +284,7 @@ module _ (pool : List PoolItem) (linked : AreLinked pool) (named : IsNamedPool p
         | inl ts ↦ inl (args.Lookup t.0 ts.0, (t.0, ts.0, refl, t.1, ts.1))
         | inr n ↦ inr (nowhere (written.Lookup default cases) is (n.0, later_in default n.0 (case_offsets cases) n.1, n.2))
       ]
-      | inr none ↦ inr (nowhere (written.Lookup default cases) is (default, first_in default (case_offsets cases), none))
+      | inr none ↦ inr (nowhere (written.Lookup default cases) is (default, is_first default (case_offsets cases), none))
     ]
 
     plain_or : (form : Form) → form_of here.op ≡ form → IsMadeBy (layout_of form) here.operands → is_allowed here.operands ≡ true → Named form here.operands ⊎ Caused

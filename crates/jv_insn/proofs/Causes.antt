@@ -4,6 +4,7 @@ use Rattle.std.specs.Prelude.{Contains, IsTrue}
 use Rattle.std.specs.Option.{option_map_or}
 use Rattle.std.specs.List.{AllZip, AllByRecursion}
 use Rattle.std.proofs.lemmas.List.Elements.{All-contains, All-from_recursion}
+use Rattle.jv_lists.proofs.Zips.{zip_at}
 use Rattle.jv_table.specs.CodeRows.{OpForm}
 use Rattle.jv_table.specs.declared.code_tables.Form.{Form}
 use Rattle.jv_table.specs.declared.code_tables.Form.TheVariants as forms
@@ -43,7 +44,6 @@ use Rattle.jv_insn.proofs.Keeping.{field_item, method_item, method_item_is}
 use Rattle.jv_insn.proofs.OfLayout.{IsMadeBy, made, chosen, at_all}
 use Rattle.jv_insn.proofs.OneBody.{class_item}
 use Rattle.jv_insn.proofs.Rewriting.{layout_by, layout_row}
-use Rattle.jv_insn.proofs.RowLoops.{zip_at}
 use Rattle.jv_insn.proofs.Tables.{class_form}
 
 -- ---- tags

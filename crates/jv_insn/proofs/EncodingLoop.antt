@@ -2,8 +2,9 @@
 use Rattle.std.proofs.Common.{◌≡◌, ℕ, zero, suc, ◌+◌, ◌<◌, ◌≤◌, List, [], ◌∷◌, ◌++◌, length, get_or, take, drop, Option, Some, None, refl, sym, ap, subst, ◌∙◌, arith}
 use Rattle.std.specs.Prelude.{Result, Err}
 use Rattle.std.specs.List.{AllByRecursion}
-use Rattle.std.proofs.lemmas.List.{take_more, take_all, drop_more, drop_all, append-nil}
+use Rattle.std.proofs.lemmas.List.{take_more, take_all, drop_all, append-nil}
 use Rattle.std.proofs.lemmas.Grind.{flat_map-append}
+use Rattle.jv_lists.proofs.Places.{drop_one}
 use Rattle.jv_types.specs.declared.instruction.Insn.{Insn}
 use Rattle.jv_types.specs.declared.body.Body.{Body}
 use Rattle.jv_pool.specs.declared.item.PoolItem.{PoolItem}
@@ -67,9 +68,6 @@ may_later initial now body i row may lt is g =
     let here = subst (λ (r : ℕ × Insn). MayPut initial r.0 r.1) (sym is) there in
     record { spelled = here.spelled; whole = here.whole; near = near_later initial now row.1 g here.near }
 
-left_one : (insns : List (ℕ × Insn)) (i : ℕ) (row : ℕ × Insn) → i < length insns → row ≡ get_or insns i row → drop i insns ≡ row ∷ drop (i + 1) insns
-left_one insns i row lt is = drop_more insns i row lt ∙ ap (λ (r : ℕ × Insn). r ∷ drop (i + 1) insns) (sym is)
-
 pub one_more : (insns : List (ℕ × Insn)) (i : ℕ) (row : ℕ × Insn) → i < length insns → row ≡ get_or insns i row → take (i + 1) insns ≡ take i insns ++ row ∷ []
 one_more insns i row lt is = take_more insns i row lt ∙ ap (λ (r : ℕ × Insn). take i insns ++ r ∷ []) (sym is)
 
@@ -88,7 +86,7 @@ encoded_more initial now new body i row written after may lt is so_far put small
     record {
       grows = grows_on initial now new so_far.grows p.grows;
       left =
-          so_far.left ∙ ap (λ (rows : List (ℕ × Insn)). put_all rows now) (left_one insns i row lt is)
+          so_far.left ∙ ap (λ (rows : List (ℕ × Insn)). put_all rows now) (drop_one insns i row lt is)
           ∙ bind_is (put_named (entry_of row.1.arg) now) (λ named. put_all (drop (i + 1) insns) named.1) (index, new) put;
       ready = subst (AllByRecursion (λ (r : ℕ × Insn). IsReady new r.1)) (sym taken) (all_push (λ (r : ℕ × Insn). IsReady new r.1) (take i insns) row before one);
       text =
@@ -103,7 +101,7 @@ pub encoded_full : (initial now : List PoolItem) (insns : List (ℕ × Insn)) (i
     → put_named (entry_of row.1.arg) now ≡ None → put_all insns initial ≡ None
 unfolding put_all
 encoded_full initial now insns i row written lt is so_far none =
-    so_far.left ∙ ap (λ (rows : List (ℕ × Insn)). put_all rows now) (left_one insns i row lt is)
+    so_far.left ∙ ap (λ (rows : List (ℕ × Insn)). put_all rows now) (drop_one insns i row lt is)
     ∙ ap (λ (o : Option (ℕ × List PoolItem)). o >>= λ named. put_all (drop (i + 1) insns) named.1) none
 
 -- all instructions are written

@@ -1,10 +1,11 @@
 -- What is decoded over the pool of a class file keeps the form of its names and types.
-use Rattle.std.proofs.Common.{◌≡◌, ℕ, zero, suc, ◌+◌, ◌-◌, ◌<◌, ◌≤◌, Bool, true, false, cond, eqb, ltb, ◌&&◌, List, [], ◌∷◌, Option, Some, None, refl, sym, ap, subst, ◌∙◌, arith}
+use Rattle.std.proofs.Common.{◌≡◌, ℕ, ◌+◌, ◌-◌, ◌<◌, ◌≤◌, Bool, true, false, cond, eqb, ltb, ◌&&◌, List, Option, Some, None, refl, sym, ap, subst, ◌∙◌, arith}
 use Rattle.std.specs.Prelude.{option_and_then, slice_get}
 use Rattle.std.specs.List.{AllByRecursion}
 use Rattle.std.specs.Option.{option_map_or}
 use Rattle.jv_table.specs.CodeRows.{OpForm}
 use Rattle.std.proofs.lemmas.Bool.{ltb-true}
+use Rattle.jv_lists.proofs.Places.{each_at}
 use Rattle.jv_table.specs.declared.code_tables.Form.{Form}
 use Rattle.jv_table.specs.declared.code_tables.Form.TheVariants as forms
 use Rattle.jv_types.specs.declared.desc.RefType.{RefType, Class, PrimArray, Array'}
@@ -43,19 +44,13 @@ use Rattle.jv_insn.proofs.SpelledBodies.{AreOperandsBy}
 
 -- ---- a pool
 
--- what holds of each item holds of the one at a place
-at_index : (P : PoolItem → Type 0) (pool : List PoolItem) (i : ℕ) (item : PoolItem) → AllByRecursion P pool → slice_get pool i ≡ Some item → P item
-at_index P [] i item all e = absurd cc
-at_index P (x ∷ xs) zero item all e = subst P (some_is x item e) all.0
-at_index P (x ∷ xs) (suc i) item all e = at_index P xs i item all.1 e
-
 -- what holds of each item holds of the one that an index names
 pub item_has : (P : PoolItem → Type 0) (pool : List PoolItem) (index : ℕ) (item : PoolItem) → AllByRecursion P pool → item_at pool index ≡ Some item → P item
 item_has P pool index item all e = by (eqb index 0) refl e
   where
     by : (b : Bool) → eqb index 0 ≡ b → cond b None (slice_get pool (index - 1)) ≡ Some item → P item
     by true is e = absurd cc
-    by false is e = at_index P pool (index - 1) item all e
+    by false is e = each_at P pool (index - 1) item all e
 
 pub item_keeps : (pool : List PoolItem) (index : ℕ) (item : PoolItem) → IsNamedPool pool → item_at pool index ≡ Some item → IsNamedItem pool item
 item_keeps pool index item named e = item_has (IsNamedItem pool) pool index item named e

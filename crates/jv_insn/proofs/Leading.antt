@@ -1,8 +1,8 @@
 -- Where offsets lead is one place.
 use Rattle.std.proofs.Common.{◌≡◌, ℕ, ◌<◌, ℤ, pos, ◌+ℤ◌, List, [], ◌∷◌, length, get_or, refl, sym, ap, ◌∙◌}
 use Rattle.std.specs.List.{AllZip}
+use Rattle.jv_lists.proofs.Zips.{zip_at}
 use Rattle.jv_insn.specs.Meanings.{LeadsTo, LeadsCase}
-use Rattle.jv_insn.proofs.RowLoops.{zip_at}
 
 pub one_distance : (z : ℤ) (a b : ℕ) → z ≡ pos a → z ≡ pos b → a ≡ b
 one_distance z a b e f = let same : pos a ≡ pos b = sym e ∙ f in (cc)

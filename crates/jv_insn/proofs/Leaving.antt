@@ -5,6 +5,7 @@ use Rattle.std.specs.List.{list_all, list_any, range_with_len}
 use Rattle.std.specs.Option.{option_map, option_map_or}
 use Rattle.std.proofs.lemmas.Bool.{and_parts, lt-ltb}
 use Rattle.std.proofs.lemmas.Bool.Decides.{nat_tests}
+use Rattle.jv_lists.proofs.Tests.{where_true, none_is, not_true}
 use Rattle.jv_table.specs.CodeRows.{OpForm, opcode_rows}
 use Rattle.jv_table.specs.declared.code_tables.Cell.{Cell}
 use Rattle.jv_table.specs.declared.code_tables.Cell.TheVariants.{Int}
@@ -82,18 +83,6 @@ each_store : list_all is_store_row opcode_rows ≡ true
 unfolding opcode_rows
 each_store = refl
 
-where_true : (b c : Bool) → b ≡ true → (not b || c) ≡ true → c ≡ true
-where_true true c t h = h
-where_true false c t h = absurd cc
-
-none_is : {X : Type 0} (o : Option X) → is_none o ≡ true → o ≡ None
-none_is None e = refl
-none_is (Some x) e = absurd cc
-
-not_is : (b : Bool) → not b ≡ true → b ≡ false
-not_is true e = absurd cc
-not_is false e = refl
-
 empty_is : (cells : List Cell) → has_none cells ≡ true → cells ≡ []
 empty_is [] e = refl
 empty_is (cell ∷ cells) e = absurd cc
@@ -130,7 +119,7 @@ loaded_left insn depth n own load lt =
     let a = and_parts (is_none (shuffle_of insn.op)) (has_none r.0.takes && not (decides_cells r.0.form)) passes in
     let b = and_parts (has_none r.0.takes) (not (decides_cells r.0.form)) a.1 in
     let moves = none_is (shuffle_of insn.op) a.0 in
-    let cells : cells_taken insn.op insn.arg ≡ [] = row_cells_taken insn.op insn.arg r.0 r.1 r.2 (not_is (decides_cells r.0.form) b.1) ∙ empty_is r.0.takes b.0 in
+    let cells : cells_taken insn.op insn.arg ≡ [] = row_cells_taken insn.op insn.arg r.0 r.1 r.2 (not_true (decides_cells r.0.form) b.1) ∙ empty_is r.0.takes b.0 in
     let below : words_below insn depth ≡ depth = nothing_below insn depth (plain_taken insn [] moves cells) in
     let wide : ltb n (words_given insn) ≡ true = lt-ltb n (words_given insn) (subst (λ (w : ℕ). n < w) (sym (plain_given insn moves)) lt) in
     let to : depth + n ≡ words_below insn depth + n = ap (λ (d : ℕ). d + n) (sym below) in
@@ -162,7 +151,7 @@ stored_left insn depth n own store lt =
     let moves = none_is (shuffle_of insn.op) a.0 in
     let one = alone_is r.0.takes b.0 in
     let local = local_of insn.op insn.arg in
-    let cells : cells_taken insn.op insn.arg ≡ one.0 ∷ [] = row_cells_taken insn.op insn.arg r.0 r.1 r.2 (not_is (decides_cells r.0.form) b.1) ∙ one.1 in
+    let cells : cells_taken insn.op insn.arg ≡ one.0 ∷ [] = row_cells_taken insn.op insn.arg r.0 r.1 r.2 (not_true (decides_cells r.0.form) b.1) ∙ one.1 in
     let write : ℕ × Cell = (local, one.0) in
     let writes : locals_written insn.op insn.arg ≡ write ∷ [] =
     ap (λ (x : Bool). cond x (map (λ (cell : Cell). (local, cell)) (cells_taken insn.op insn.arg)) (cond (eqb insn.op IINC) ((local, Int) ∷ []) [])) store

@@ -2,6 +2,7 @@
 use Rattle.std.proofs.Common.{◌≡◌, ℕ, suc, ◌+◌, Bool, true, false, cond, leb, List, [], ◌∷◌, ◌++◌, length, Option, Some, None, refl, sym, ap, ◌∙◌, append_assoc}
 use Rattle.std.specs.Prelude.{option_map, unwrap_or}
 use Rattle.std.proofs.lemmas.List.{append-nil}
+use Rattle.jv_lists.proofs.Tests.{suc_some}
 use Rattle.jv_types.specs.declared.instruction.Const.TheVariants as consts
 use Rattle.jv_types.specs.declared.instruction.Arg.{Arg}
 use Rattle.jv_types.specs.declared.instruction.Arg.TheVariants as args
@@ -25,10 +26,6 @@ use Rattle.jv_insn.proofs.Placing.{place_by, put_found, put_behind}
 pub grows_on : (a b c : List PoolItem) → Grows a b → Grows b c → Grows a c
 grows_on a b c g h = (g.0 ++ h.0, h.1 ∙ ap (λ (p : List PoolItem). p ++ h.0) g.1 ∙ append_assoc a g.0 h.0)
 
-later : (o : Option ℕ) (i : ℕ) → option_map suc o ≡ Some i → (q : ℕ) × (o ≡ Some q) × (suc q ≡ i)
-later None i e = absurd cc
-later (Some q) i e = (q, refl, cc)
-
 -- the first index of an item stays
 pub item_stays : (pool more : List PoolItem) (item : PoolItem) (i : ℕ) → place_of pool item ≡ Some i → place_of (pool ++ more) item ≡ Some i
 unfolding place_of
@@ -38,7 +35,7 @@ item_stays (x ∷ xs) more item i e = by (is_same item x) (item_stays xs more it
     by : (b : Bool) → ((q : ℕ) → place_of xs item ≡ Some q → place_of (xs ++ more) item ≡ Some q) → cond b (Some 1) (option_map suc (place_of xs item)) ≡ Some i → cond b (Some 1) (option_map suc (place_of (xs ++ more) item)) ≡ Some i
     by true stays e = e
     by false stays e =
-        let q = later (place_of xs item) i e in
+        let q = suc_some (place_of xs item) i e in
         ap (option_map suc) (stays q.0 q.1) ∙ ap (λ (n : ℕ). Some n) q.2
 
 pub class_stays : (pool more : List PoolItem) (text : List ℕ) (i : ℕ) → class_place pool text ≡ Some i → class_place (pool ++ more) text ≡ Some i

@@ -5,6 +5,7 @@ use Rattle.std.specs.Int.{w8, w16, w32, cast_unsigned}
 use Rattle.std.specs.List.{flat_map, AllZip}
 use Rattle.std.proofs.lemmas.Int.{of_z-to_z, ints}
 use Rattle.std.proofs.lemmas.List.{append-nil, length-replicate}
+use Rattle.std.proofs.lemmas.Slice.Zip.{AllZip-long}
 use borrow.Author.Gap.{read_sfits}
 use Rattle.jv_bytes.specs.Numbers.{number_text}
 use Rattle.jv_bytes.proofs.NumberLaws.{length-number_text}
@@ -79,12 +80,6 @@ zip_on P Q [] [] on h = h
 zip_on P Q [] (y ∷ ys) on h = absurd h
 zip_on P Q (x ∷ xs) [] on h = absurd h
 zip_on P Q (x ∷ xs) (y ∷ ys) on h = (on x y h.0, zip_on P Q xs ys on h.1)
-
-pub zip_length : {A B : Type 0} (P : A → B → Type 0) (xs : List A) (ys : List B) → AllZip P xs ys → length ys ≡ length xs
-zip_length P [] [] h = refl
-zip_length P [] (y ∷ ys) h = absurd h
-zip_length P (x ∷ xs) [] h = absurd h
-zip_length P (x ∷ xs) (y ∷ ys) h = let e = zip_length P xs ys h.1 in omega arith
 
 targets_again : (rows : List (ℕ × Written)) (pc : ℕ) (offsets : List ℤ) (targets : List ℕ) → AllZip (LeadsTo rows pc) offsets targets → flat_map (λ (target : ℕ). s4_text (branch_offset pc target)) targets ≡ flat_map s4_text offsets
 targets_again rows pc [] [] h = refl
@@ -264,7 +259,7 @@ module _ (rows : List (ℕ × Written)) (pool : List PoolItem) (index pc op : �
   table_again : (text : List ℕ) (w : Operands) (old : List PoolItem) (arg : Arg) → IsTable (pc + 1) text w → NamesOperands old rows pc op forms.TableSwitch w arg → IsAgain rows pool index pc op (length text) forms.TableSwitch false TableSwitch arg
   table_again text w old arg h named =
       let n = subst (λ (v : Operands). NamesOperands old rows pc op forms.TableSwitch v arg) h.made named in
-      let count : length n.1 ≡ length h.offsets = zip_length (LeadsTo rows pc) h.offsets n.1 n.4 in
+      let count : length n.1 ≡ length h.offsets = AllZip-long (LeadsTo rows pc) h.offsets n.1 n.4 in
       let high = high_is h.low h.high (length n.1) h.in_order (count ∙ h.count) in
       let behind : List ℕ = s4_text h.default ++ (s4_text h.low ++ (s4_text h.high ++ flat_map s4_text h.offsets)) in
       let far : branch_offset pc n.0 ≡ h.default = far_as pc n.0 h.default n.3.distance in
@@ -303,7 +298,7 @@ module _ (rows : List (ℕ × Written)) (pool : List PoolItem) (index pc op : �
   lookup_again : (text : List ℕ) (w : Operands) (old : List PoolItem) (arg : Arg) → IsLookup (pc + 1) text w → is_allowed w ≡ true → NamesOperands old rows pc op forms.LookupSwitch w arg → IsAgain rows pool index pc op (length text) forms.LookupSwitch false LookupSwitch arg
   lookup_again text w old arg h allowed named =
       let n = subst (λ (v : Operands). NamesOperands old rows pc op forms.LookupSwitch v arg) h.made named in
-      let count : length n.1 ≡ length h.cases = zip_length (LeadsCase rows pc) h.cases n.1 n.4 in
+      let count : length n.1 ≡ length h.cases = AllZip-long (LeadsCase rows pc) h.cases n.1 n.4 in
       let behind : List ℕ = s4_text h.default ++ (number_text 4 (length h.cases) ++ flat_map pair_text h.cases) in
       let far : branch_offset pc n.0 ≡ h.default = far_as pc n.0 h.default n.3.distance in
       let few : length h.cases < 2 ^ 31 = h.count in

@@ -1,9 +1,11 @@
 -- The loops over the rows of a code and over the entries of its exception table.
-use Rattle.std.proofs.Common.{◌≡◌, ℕ, zero, suc, ◌+◌, ◌<◌, ◌≤◌, true, List, [], ◌∷◌, ◌++◌, length, get_or, take, leb, min, Option, Some, None, refl, sym, ap, subst, ◌∙◌, ◌⊎◌, inl, inr, arith}
+use Rattle.std.proofs.Common.{◌≡◌, ℕ, ◌+◌, ◌<◌, ◌≤◌, true, List, [], ◌∷◌, ◌++◌, length, get_or, take, leb, min, Option, Some, None, refl, sym, ap, subst, ◌∙◌, ◌⊎◌, inl, inr, arith}
 use Rattle.std.specs.List.{AllZip}
 use Rattle.std.proofs.lemmas.Bool.{and_parts, cases_lt}
 use Rattle.std.proofs.lemmas.List.{get_or-take, length-take, take_more, take_all}
 use Rattle.std.proofs.lemmas.List.Elements.{Contains-push, Contains-append_left, Contains-push_cases}
+use Rattle.std.proofs.lemmas.Slice.Zip.{all_zipped_more}
+use Rattle.jv_lists.proofs.Zips.{zip_at}
 use Rattle.jv_types.specs.Bodies.{IsStart, rises_from, at_offset}
 use Rattle.jv_types.specs.declared.raw_handler.RawHandler.{RawHandler}
 use Rattle.jv_types.specs.declared.instruction.Insn.{Insn}
@@ -15,20 +17,6 @@ use Rattle.jv_insn.specs.Meanings.{IsInsn}
 use Rattle.jv_insn.specs.Decoding.{IsRow, IsHandler, FailsInsn, FailsHandler}
 use Rattle.jv_insn.specs.Steps.Rows.{AreRows, IsFirst, HandlersSoFar, lesser}
 use Rattle.jv_read.proofs.Fronts.{some_is}
-
--- one pair more
-pub zip_push : {A B : Type 0} (R : A → B → Type 0) (xs : List A) (ys : List B) (x : A) (y : B) → AllZip R xs ys → R x y → AllZip R (xs ++ x ∷ []) (ys ++ y ∷ [])
-zip_push R [] [] x y h r = (r, tt)
-zip_push R [] (b ∷ ys) x y h r = absurd h
-zip_push R (a ∷ xs) [] x y h r = absurd h
-zip_push R (a ∷ xs) (b ∷ ys) x y h r = (h.0, zip_push R xs ys x y h.1 r)
-
--- what stands at a place has a partner
-pub zip_at : {A B : Type 0} (R : A → B → Type 0) (xs : List A) (ys : List B) (i : ℕ) (d : A) → AllZip R xs ys → i < length xs → (y : B) × R (get_or xs i d) y
-zip_at R [] ys i d h lt = absurd (omega arith)
-zip_at R (a ∷ xs) [] i d h lt = absurd h
-zip_at R (a ∷ xs) (b ∷ ys) zero d h lt = (b, h.0)
-zip_at R (a ∷ xs) (b ∷ ys) (suc i) d h lt = zip_at R xs ys i d h.1 (omega arith)
 
 -- ---- instructions
 
@@ -91,7 +79,7 @@ no_handler_fails pool size rows raws handlers all pc f =
 -- one entry more, which is a handler
 pub handler_goes_on : (pool : List PoolItem) (size : ℕ) (rows : List (ℕ × Written)) (raws : List RawHandler) (handlers : List Handler) (least : Option ℕ) (raw : RawHandler) (handler : Handler)
     → HandlersSoFar pool size rows raws handlers least → IsHandler pool size rows raw handler → HandlersSoFar pool size rows (raws ++ raw ∷ []) (handlers ++ handler ∷ []) least
-handler_goes_on pool size rows raws handlers None raw handler h is = zip_push (IsHandler pool size rows) raws handlers raw handler h is
+handler_goes_on pool size rows raws handlers None raw handler h is = all_zipped_more (IsHandler pool size rows) raws handlers raw handler h is
 handler_goes_on pool size rows raws handlers (Some pc) raw handler h is = record {
   holds = record { handler = h.holds.handler; among = Contains-append_left raws (raw ∷ []) h.holds.handler h.holds.among; starts = h.holds.starts; is_none = h.holds.is_none };
   least = λ other f.
@@ -130,11 +118,6 @@ handler_fails pool size rows raws handlers (Some pc) raw h none =
 
 -- ---- a loop over a list
 
--- one place more
-pub zip_more : {A B : Type 0} (R : A → B → Type 0) (xs : List A) (ys : List B) (i : ℕ) (d : A) (y : B) → i < length xs → AllZip R (take i xs) ys → R (get_or xs i d) y → AllZip R (take (i + 1) xs) (ys ++ y ∷ [])
-zip_more R xs ys i d y lt h r =
-    rw (take_more xs i d lt) (zip_push R (take i xs) ys (get_or xs i d) y h r)
-
 -- all places
 pub zip_whole : {A B : Type 0} (R : A → B → Type 0) (xs : List A) (ys : List B) (i : ℕ) → length xs ≤ i → AllZip R (take i xs) ys → AllZip R xs ys
 zip_whole {A} {B} R xs ys i le h = subst (λ (zs : List A). AllZip R zs ys) (take_all i xs le) h
@@ -153,10 +136,6 @@ failure_more pool size rows raws handlers least i d lt h none =
 pub handlers_whole : (pool : List PoolItem) (size : ℕ) (rows : List (ℕ × Written)) (raws : List RawHandler) (handlers : List Handler) (least : Option ℕ) (i : ℕ) → length raws ≤ i
     → HandlersSoFar pool size rows (take i raws) handlers least → HandlersSoFar pool size rows raws handlers least
 handlers_whole pool size rows raws handlers least i le h = subst (λ (rs : List RawHandler). HandlersSoFar pool size rows rs handlers least) (take_all i raws le) h
-
--- the same, where the element has a name
-pub zip_more_of : {A B : Type 0} (R : A → B → Type 0) (xs : List A) (ys : List B) (i : ℕ) (x : A) (y : B) → i < length xs → x ≡ get_or xs i x → AllZip R (take i xs) ys → R x y → AllZip R (take (i + 1) xs) (ys ++ y ∷ [])
-zip_more_of {A} R xs ys i x y lt is h r = zip_more R xs ys i x y lt h (subst (λ (a : A). R a y) is r)
 
 pub insn_fails_of : (pool : List PoolItem) (max_locals : ℕ) (rows : List (ℕ × Written)) (i : ℕ) (row : ℕ × Written) (insns : List (ℕ × Insn)) → AreRows rows → i < length rows → row ≡ get_or rows i row
     → AllZip (IsRow pool max_locals rows) (take i rows) insns → ((insn : Insn) → IsInsn pool max_locals rows row.0 row.1 insn → ⊥) → IsFirst (FailsInsn pool max_locals rows) row.0

@@ -2,6 +2,7 @@
 use Rattle.std.proofs.Common.{◌≡◌, ℕ, suc, ◌+◌, ◌-◌, ◌*◌, ◌<◌, ◌⊎◌, inl, inr, ℤ, Bool, true, false, cond, eqb, List, [], ◌∷◌, ◌++◌, length, Option, Some, None, IsSome, refl, sym, ap, subst, ◌∙◌, length-append, arith}
 use Rattle.std.specs.List.{AllZip, AllByRecursion, flat_map}
 use Rattle.std.specs.Option.{option_map_or}
+use Rattle.std.proofs.lemmas.Slice.Zip.{AllZip-long}
 use Rattle.jv_bytes.specs.Numbers.{number_text}
 use Rattle.jv_bytes.proofs.NumberLaws.{length-number_text}
 use Rattle.jv_table.specs.CodeRows.{OpForm}
@@ -22,7 +23,7 @@ use Rattle.jv_insn.specs.Layouts.{Layout, One, s1, s2, s4, s4_text, pair_text, p
 use Rattle.jv_insn.specs.Meanings.{LeadsTo, LeadsCase, NamesOperands, IsInsn}
 use Rattle.jv_insn.specs.Decoding.{IsRow, IsHandler, Decodes}
 use Rattle.jv_insn.specs.Encoding.{form_of, is_left_out, arg_size, insn_size, IsSpelled, StandsNear, MayStand, AreLaid, HasPlaces, MayEncode}
-use Rattle.jv_insn.proofs.Rewriting.{layout_by, layout_row, zip_length}
+use Rattle.jv_insn.proofs.Rewriting.{layout_by, layout_row}
 use Rattle.jv_insn.proofs.ByteCounts.{both, s4_size}
 
 -- ---- the operands of each layout
@@ -105,11 +106,11 @@ plain_long forms.Jump2 pool rows pc op text operands arg h n = let k = subst (λ
 plain_long forms.Jump4 pool rows pc op text operands arg h n = let k = subst (λ (o : Operands). NamesOperands pool rows pc op forms.Jump4 o arg) h.made n in one_long 4 (λ offset. written.Jump (s4 offset)) text operands h ∙ sym (ap (arg_size forms.Jump4 false pc) k.1)
 plain_long forms.TableSwitch pool rows pc op text operands arg h n =
     let k = subst (λ (o : Operands). NamesOperands pool rows pc op forms.TableSwitch o arg) h.made n in
-    let as_many : length k.1 ≡ length h.offsets = zip_length (LeadsTo rows pc) h.offsets k.1 k.4 in
+    let as_many : length k.1 ≡ length h.offsets = AllZip-long (LeadsTo rows pc) h.offsets k.1 k.4 in
     table_long (pc + 1) text operands h ∙ ap (λ (m : ℕ). padding_at (pc + 1) + (12 + 4 * m)) (sym as_many) ∙ sym (ap (arg_size forms.TableSwitch false pc) k.2)
 plain_long forms.LookupSwitch pool rows pc op text operands arg h n =
     let k = subst (λ (o : Operands). NamesOperands pool rows pc op forms.LookupSwitch o arg) h.made n in
-    let as_many : length k.1 ≡ length h.cases = zip_length (LeadsCase rows pc) h.cases k.1 k.4 in
+    let as_many : length k.1 ≡ length h.cases = AllZip-long (LeadsCase rows pc) h.cases k.1 k.4 in
     lookup_long (pc + 1) text operands h ∙ ap (λ (m : ℕ). padding_at (pc + 1) + (8 + 8 * m)) (sym as_many) ∙ sym (ap (arg_size forms.LookupSwitch false pc) k.2)
 plain_long forms.Wide pool rows pc op text operands arg h n = absurd h
 

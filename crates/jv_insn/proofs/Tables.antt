@@ -5,9 +5,8 @@ use Rattle.jv_table.specs.declared.code_tables.Cell.{Cell}
 use Rattle.std.proofs.lemmas.Bool.{and_parts, eqb-true}
 use Rattle.std.proofs.lemmas.Map.Lookups.{exact_unsigned}
 use Rattle.std.specs.List.{list_all}
-use Rattle.std.specs.declared.cmp.Ordering.{Ordering}
-use Rattle.std.specs.declared.cmp.Ordering.TheVariants.{Less, Equal, Greater}
 use Rattle.std.specs.Ordering.{nat_cmp, is_eq}
+use Rattle.jv_lists.proofs.Tests.{is_eq-Equal, where_true}
 use Rattle.jv_table.specs.Rows.{row_of}
 use Rattle.jv_table.specs.CodeRows.{OpForm, opcode_rows, newarray_rows}
 use Rattle.jv_table.specs.declared.code_tables.Form.{Form}
@@ -21,11 +20,6 @@ use Rattle.jv_insn.specs.Effects.{Shuffle, op_row, row_takes, row_gives, cells_t
 use Rattle.jv_insn.specs.Forms.{HasOperands}
 use Rattle.jv_insn.specs.Encoding.{atype_of}
 
-is_equal : (o : Ordering) → is_eq o ≡ true → o ≡ Equal
-is_equal Equal e = refl
-is_equal Less e = absurd cc
-is_equal Greater e = absurd cc
-
 -- a test that each row passes is passed by the row of a key
 pub row_passes : {R : Type 0} (test : ℕ × R → Bool) (rows : List (ℕ × R)) (key : ℕ) (row : R) → list_all test rows ≡ true → row_of nat_cmp key rows ≡ Some row → test (key, row) ≡ true
 row_passes {R} test [] key row all e = absurd cc
@@ -35,7 +29,7 @@ row_passes {R} test (first ∷ rows) key row all e =
   where
     by : (b : Bool) → is_eq (nat_cmp key first.0) ≡ b → (row_of nat_cmp key rows ≡ Some row → test (key, row) ≡ true) → test first ≡ true → cond b (Some first.1) (row_of nat_cmp key rows) ≡ Some row → test (key, row) ≡ true
     by true same more passes e =
-        let k : key ≡ first.0 = exact_unsigned key first.0 (is_equal (nat_cmp key first.0) same) in
+        let k : key ≡ first.0 = exact_unsigned key first.0 (is_eq-Equal (nat_cmp key first.0) same) in
         let r : first.1 ≡ row = some_is first.1 row e in
         ap (λ (n : ℕ). test (n, row)) k ∙ ap (λ (x : R). test (first.0, x)) (sym r) ∙ passes
     by false same more passes e = more e
@@ -182,10 +176,6 @@ leaves_to_operands row = not (decides_cells row.1.form) || has_no_cells row.1
 each_leaves : list_all leaves_to_operands opcode_rows ≡ true
 unfolding opcode_rows
 each_leaves = refl
-
-where_true : (b c : Bool) → b ≡ true → (not b || c) ≡ true → c ≡ true
-where_true true c t h = h
-where_true false c t h = absurd cc
 
 pub operands_rows : (op : ℕ) (row : OpForm) → op_row op ≡ Some row → decides_cells row.form ≡ true → (row.takes ≡ []) × (row.gives ≡ [])
 operands_rows op row e d =

@@ -9,12 +9,12 @@ use Rattle.std.proofs.lemmas.Bool.{and_parts, false_from_ne_true, ne_eqb}
 use Rattle.std.proofs.lemmas.Option.{none-some}
 use Rattle.std.specs.Map.{lookup}
 use Rattle.std.specs.BTreeMap.{BTreeMap, get, is_at, Updates, IsEmpty, IsUnchanged}
+use Rattle.jv_lists.proofs.Tests.{is_eq-Equal, suc_some}
 use Rattle.jv_pool.specs.declared.item.PoolItem.{PoolItem}
 use Rattle.jv_pool.specs.declared.item.PoolItem.TheVariants as items
 use Rattle.jv_pool.specs.Lookups.{item_at}
 use Rattle.jv_pool.specs.PoolText.{is_wide, is_hole}
 use Rattle.jv_pool.specs.Adding.{slots_of, HasItem, item_cmp, is_same, place_of, HasPlaces}
-use Rattle.jv_equality.proofs.Exact.{is_eq-Equal}
 use Rattle.jv_read.proofs.Fronts.{some_is}
 use Rattle.jv_pool.proofs.ItemsTold.{items_tied}
 
@@ -49,10 +49,6 @@ record Stands (all : List PoolItem) (item : PoolItem) (i : ℕ) : Type 0 where
   j : ℕ
   is : i ≡ suc j
   at : slice_get all j ≡ Some item
-
-suc_some : (o : Option ℕ) (p : ℕ) → option_map suc o ≡ Some p → (q : ℕ) × (o ≡ Some q) × (suc q ≡ p)
-suc_some None p e = absurd cc
-suc_some (Some q) p e = (q, refl, cc)
 
 stands_more : (x : PoolItem) (xs : List PoolItem) (item : PoolItem) (i : ℕ) (b : Bool) (later : Option ℕ) → is_same item x ≡ b → ((p : ℕ) → later ≡ Some p → Stands xs item p)
     → cond b (Some 1) (option_map suc later) ≡ Some i → Stands (x ∷ xs) item i

@@ -4,6 +4,7 @@ use Rattle.std.specs.Prelude.{option_to_list}
 use Rattle.std.specs.List.{slice_get, Contains}
 use Rattle.std.proofs.lemmas.Bool.{cases_lt}
 use Rattle.std.proofs.lemmas.Option.{slice_get_within}
+use Rattle.jv_lists.proofs.Places.{get_front}
 use Rattle.jv_types.specs.declared.shapes.Shape.{Shape}
 use Rattle.jv_world.specs.Worlds.{IsNamed, HasInterface, HasSuper, Sub, same, link, IsWorld}
 use Rattle.jv_resolve.specs.Steps.Targets.{NoneLeads}
@@ -25,11 +26,6 @@ ways_end w P zero c d p holds = (p, holds)
 ways_end w P (suc n) c d p holds = (p.0, p.1, p.2, ways_end w P n p.1 d p.3 holds)
 
 -- ---- direct supers
-
-get_left : (xs ys : List (List ℕ)) (k : ℕ) (x : List ℕ) → slice_get xs k ≡ Some x → slice_get (xs ++ ys) k ≡ Some x
-get_left [] ys k x e = absurd cc
-get_left (y ∷ xs) ys zero x e = e
-get_left (y ∷ xs) ys (suc k) x e = get_left xs ys k x e
 
 get_back : (xs ys : List (List ℕ)) (k : ℕ) (x : List ℕ) → k < length xs → slice_get (xs ++ ys) k ≡ Some x → slice_get xs k ≡ Some x
 get_back [] ys k x lt e = absurd (omega arith)
@@ -56,7 +52,7 @@ way_interface w P c s d at way =
       record {
         place = way.place;
         name = way.name;
-        at_place = get_left s.interfaces (option_to_list s.parent) way.place way.name way.at_place;
+        at_place = get_front s.interfaces (option_to_list s.parent) way.place way.name way.at_place;
         named = way.named;
         leads = way.leads;
         before = λ k other e lt got named. way.before k other e lt (get_back s.interfaces (option_to_list s.parent) k other (omega arith) got) named;

@@ -3,6 +3,7 @@ use Rattle.std.proofs.Common.{◌≡◌, ◌≢◌, ◌+◌, ◌-◌, ◌<◌, �
 use Rattle.std.specs.List.{flat_map, AllByRecursion}
 use Rattle.std.proofs.lemmas.Bool.{and_from, not_from_false, eqb-true, eqb-false, leb-true, leb-false}
 use Rattle.std.proofs.lemmas.Bool.Decides.{leb_tells}
+use Rattle.jv_lists.proofs.Places.{heads}
 use Rattle.jv_types.specs.NameForms.{is_class_name}
 use Rattle.jv_types.specs.declared.desc.PrimType.{PrimType}
 use Rattle.jv_types.specs.declared.desc.PrimType.TheVariants.{Boolean, Char, Float, Double, Byte, Short, Int, Long}
@@ -13,7 +14,7 @@ use Rattle.jv_types.specs.declared.desc.MethodDesc.{MethodDesc}
 use Rattle.jv_desc.specs.Texts.{prim_letter, IsDesc, desc_text, IsFieldText, IsResult, result_text, IsMethodText, words_of}
 use Rattle.jv_desc.specs.Steps.Reading.{no_semicolon, ReadsRef, ReadsDesc, ReadsParams}
 use Rattle.jv_desc.proofs.Fronts.{no_end}
-use Rattle.jv_desc.proofs.RefReading.{heads, class_parts, no_ref_none, no_ref, no_ref_class, no_ref_array, yes_ref_array, no_class}
+use Rattle.jv_desc.proofs.RefReading.{class_parts, no_ref_none, no_ref, no_ref_class, no_ref_array, yes_ref_array, no_class}
 use Rattle.jv_desc.proofs.Agreement.{reads_shorter, field_as_read, field_trailing, field_whole, method_as_read, method_stuck, one_method}
 use Rattle.jv_desc.proofs.DescReading.{params_none, params_more, params_stuck, params_cut}
 use Rattle.jv_names.specs.Spellings.{IsFieldDescriptor, IsMethodDescriptor}

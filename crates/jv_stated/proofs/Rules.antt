@@ -2,6 +2,7 @@
 use Rattle.std.proofs.Common.{◌≡◌, ◌≢◌, ◌⊎◌, inl, inr, ⊎_elim, ℕ, zero, suc, Bool, true, false, eqb, not, ◌&&◌, ◌||◌, if◌then◌else◌, count_by, List, [], ◌∷◌, Option, Some, None, slice_get, codes, refl, sym, ap, subst, ◌∙◌, arith}
 use Rattle.std.specs.List.{AllByRecursion}
 use Rattle.std.proofs.lemmas.Bool.Decides.{Decides-eqb}
+use Rattle.jv_lists.proofs.Places.{heads}
 use Rattle.jv_types.specs.NameForms.{is_class_name, is_part, is_method_name}
 use Rattle.jv_pool.specs.declared.item.PoolItem.{PoolItem}
 use Rattle.jv_pool.specs.declared.item.PoolItem.TheVariants.{Class, Field, Method, InterfaceMethod, NameAndType}
@@ -11,7 +12,6 @@ use Rattle.jv_names.specs.PoolNames.{HasText, HasClassName, HasNames, IsNamedIte
 use Rattle.jv_class.specs.declared.class_file.Member.{Member}
 use Rattle.jv_class.specs.declared.class_file.ClassFile.{ClassFile}
 use Rattle.jv_class.specs.ClassTexts.{is_static, is_native, is_abstract, has_code, IsField, IsMethodMember, AreDistinct, KeepsRules}
-use Rattle.jv_desc.proofs.RefReading.{heads}
 use Rattle.jv_read.proofs.Fronts.{some_is}
 use Rattle.jv_stated.proofs.Deciding.{IsDecided, like, both, either, denial, by_test, by_decides, each, same_text, same_found, there}
 use Rattle.jv_stated.proofs.Descriptors.{field_descriptor, method_descriptor}

@@ -1,6 +1,7 @@
 -- The shape of a class: there is one, and no other.
 use Rattle.std.proofs.Common.{◌≡◌, ◌⊎◌, inl, inr, ℕ, Bool, List, [], ◌∷◌, Option, Some, None, refl, sym, ap, subst, ◌∙◌}
 use Rattle.std.specs.List.{AllZip, AllByRecursion, list_any}
+use Rattle.jv_lists.proofs.Zips.{one_zip}
 use Rattle.jv_types.specs.declared.access.Access.{Access}
 use Rattle.jv_types.specs.declared.shapes.FieldShape.{FieldShape}
 use Rattle.jv_types.specs.declared.shapes.MethodShape.{MethodShape}
@@ -52,17 +53,6 @@ shape_made c application h =
     )
 
 -- ---- no other
-
-one_zip : {X Y : Type 0} (R : X → Y → Type 0) → ((x : X) (y z : Y) → R x y → R x z → y ≡ z) → (xs : List X) (ys zs : List Y) → AllZip R xs ys → AllZip R xs zs → ys ≡ zs
-one_zip R one [] [] [] p q = refl
-one_zip R one [] [] (z ∷ zs) p q = absurd q
-one_zip R one [] (y ∷ ys) zs p q = absurd p
-one_zip R one (x ∷ xs) [] zs p q = absurd p
-one_zip R one (x ∷ xs) (y ∷ ys) [] p q = absurd q
-one_zip R one (x ∷ xs) (y ∷ ys) (z ∷ zs) p q =
-    let first = one x y z p.0 q.0 in
-    let rest = one_zip R one xs ys zs p.1 q.1 in
-    λ i. first i ∷ rest i
 
 one_found : (found : Option (List ℕ)) (x y : List ℕ) → found ≡ Some x → found ≡ Some y → x ≡ y
 one_found found x y p q = some_is x y (sym p ∙ q)

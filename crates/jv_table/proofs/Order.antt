@@ -5,7 +5,7 @@ use Rattle.std.proofs.lemmas.List.{get_or_default}
 use Rattle.std.proofs.lemmas.Option.{slice_get-get_or, slice_get_within, get_or_from_slice_get}
 use Rattle.std.specs.Cmp.{IsTotalOrder, tied_back}
 use Rattle.std.specs.List.{AllWithin}
-use Rattle.std.specs.Ordering.{is_lt, is_eq, ordering_reverse}
+use Rattle.std.specs.Ordering.{is_lt, ordering_reverse}
 use Rattle.std.specs.declared.cmp.Ordering.{Ordering}
 use Rattle.std.specs.declared.cmp.Ordering.TheVariants.{Less, Equal, Greater}
 use Rattle.jv_table.specs.Rows.{rises, rises_above, row_of, IsRowOf}
@@ -17,11 +17,6 @@ less_is : (r : Ordering) → is_lt r ≡ true → r ≡ Less
 less_is Less e = refl
 less_is Equal e = absurd cc
 less_is Greater e = absurd cc
-
-equal_is : (r : Ordering) → is_eq r ≡ true → r ≡ Equal
-equal_is Less e = absurd cc
-equal_is Equal e = refl
-equal_is Greater e = absurd cc
 
 module _ {K R : Type 0} {cmp : K → K → Ordering} (o : IsTotalOrder cmp) where
   -- rows that rise above a key rise

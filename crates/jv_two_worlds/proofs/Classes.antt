@@ -4,6 +4,7 @@ use Rattle.std.specs.Prelude.{MatchOption}
 use Rattle.std.specs.Cmp.Lexicographic.{pointwise, bytes_decides}
 use Rattle.std.proofs.lemmas.Bool.{false≢true}
 use Rattle.std.proofs.lemmas.Option.{same_Some}
+use Rattle.jv_lists.proofs.Places.{element_at}
 use Rattle.jv_types.specs.declared.shapes.Shape.{Shape}
 use Rattle.jv_world.specs.Worlds.{object_name, HasSuperclass, IsFinal, IsInterface, IsNamed, IsWorld}
 use Rattle.jv_resolve.proofs.Hierarchy.{super_here}
@@ -11,11 +12,6 @@ use Rattle.jv_resolve.proofs.PlacesLemmas.{among_from_get}
 use Rattle.jv_resolve.specs.Members.{IsInterfaceClass}
 use Rattle.jv_two_worlds.specs.Renumbering.{StandsIn}
 use Rattle.jv_two_worlds.specs.SameClasses.{IsSameClass}
-
-pub shape_of : (w : List Shape) (c : ℕ) → c < length w → (s : Shape) × (slice_get w c ≡ Some s)
-shape_of [] c lt = absurd (omega (arith, lt))
-shape_of (x ∷ xs) zero lt = (x, refl)
-shape_of (x ∷ xs) (suc c) lt = shape_of xs c (omega (arith, lt))
 
 -- a class has the name, or none has
 named_or_not : (w : List Shape) (name : List ℕ) → ((d : ℕ) × IsNamed w d name) ⊎ ((d : ℕ) → IsNamed w d name → ⊥)
@@ -63,7 +59,7 @@ object_by w world c s at (Some name) e on = let found = there w world c s name a
 object_from : (w : List Shape) (world : IsWorld w) (n c : ℕ) → c < length w → world.rank c < n → (o : ℕ) × IsNamed w o object_name
 object_from w world zero c here low = absurd (omega (arith, low))
 object_from w world (suc n) c here low =
-    let own = shape_of w c here in
+    let own = element_at w c here in
     object_by w world c own.0 own.1 own.0.parent refl
     (λ d step. let falls = world.falls c d (inl step) in object_from w world n d (super_here w c d (inl step)) (omega (arith, low, falls)))
 
@@ -74,7 +70,7 @@ module _ {w v : List Shape} {to : ℕ → ℕ} (inside : StandsIn w v to) where
   -- what stands at the other number
   pub shape_back : (c : ℕ) (t : Shape) → c < length w → slice_get v (to c) ≡ Some t → (s : Shape) × (slice_get w c ≡ Some s) × IsSameClass s t
   shape_back c t here at =
-      let own = shape_of w c here in
+      let own = element_at w c here in
       let other = inside.shapes c own.0 own.1 in
       (own.0, own.1, subst (IsSameClass own.0) (same_Some other.0 t (sym other.1 ∙ at)) other.2)
 
@@ -90,7 +86,7 @@ module _ {w v : List Shape} {to : ℕ → ℕ} (inside : StandsIn w v to) where
 
   pub one_number : (c d : ℕ) → c < length w → d < length w → to c ≡ to d → c ≡ d
   one_number c d here there e =
-      let own = shape_of w c here in
+      let own = element_at w c here in
       let named : IsNamed w c own.0.name = (own.0, own.1, refl) in
       inside.world.numbered.distinct c d own.0.name named (named_back d own.0.name there (subst (λ (x : ℕ). IsNamed v x own.0.name) e (named_into c own.0.name named)))
 

@@ -1,7 +1,7 @@
 -- Members at the same place in both worlds.
-use Rattle.std.proofs.Common.{◌≡◌, ℕ, zero, suc, ◌<◌, List, [], ◌∷◌, Some, length, slice_get, refl, sym, ap, ◌∙◌, subst}
-use Rattle.std.specs.List.{AllZip}
-use Rattle.std.proofs.lemmas.Option.{same_Some, slice_get_within}
+use Rattle.std.proofs.Common.{◌≡◌, ℕ, ◌<◌, List, length, refl, sym, ap, ◌∙◌}
+use Rattle.std.proofs.lemmas.Option.{slice_get_within}
+use Rattle.jv_lists.proofs.Zips.{zip_into, zip_back}
 use Rattle.jv_types.specs.declared.desc.Desc.{Desc}
 use Rattle.jv_types.specs.declared.desc.MethodDesc.{MethodDesc}
 use Rattle.jv_types.specs.declared.ids.FieldId.{FieldId}
@@ -35,21 +35,6 @@ declares_here w name desc m p = slice_get_within w m.class.number p.class p.of_c
 
 pub declares_field_here : (w : List Shape) (name : List ℕ) (desc : Desc) (f : FieldId) → DeclaresField w name desc f → f.class.number < length w
 declares_field_here w name desc f p = slice_get_within w f.class.number p.class p.of_class
-
--- what stands at a place of the one list stands there in the other
-zip_into : {X Y : Type 0} (R : X → Y → Type 0) (xs : List X) (ys : List Y) → AllZip R xs ys → (k : ℕ) (x : X) → slice_get xs k ≡ Some x → (y : Y) × (slice_get ys k ≡ Some y) × R x y
-zip_into R [] [] all k x e = absurd cc
-zip_into R [] (y ∷ ys) all k x e = absurd all
-zip_into R (z ∷ xs) [] all k x e = absurd all
-zip_into R (z ∷ xs) (y ∷ ys) all zero x e = (y, refl, subst (λ u. R u y) (same_Some z x e) all.0)
-zip_into R (z ∷ xs) (y ∷ ys) all (suc k) x e = zip_into R xs ys all.1 k x e
-
-zip_back : {X Y : Type 0} (R : X → Y → Type 0) (xs : List X) (ys : List Y) → AllZip R xs ys → (k : ℕ) (y : Y) → slice_get ys k ≡ Some y → (x : X) × (slice_get xs k ≡ Some x) × R x y
-zip_back R [] [] all k y e = absurd cc
-zip_back R [] (z ∷ ys) all k y e = absurd all
-zip_back R (x ∷ xs) [] all k y e = absurd all
-zip_back R (x ∷ xs) (z ∷ ys) all zero y e = (x, refl, subst (λ u. R x u) (same_Some z y e) all.0)
-zip_back R (x ∷ xs) (z ∷ ys) all (suc k) y e = zip_back R xs ys all.1 k y e
 
 module _ {w v : List Shape} {to : ℕ → ℕ} (inside : StandsIn w v to) where
   pub one_member : (m n : MethodId) → m.class.number < length w → n.class.number < length w → method_to to m ≡ method_to to n → m ≡ n

@@ -1,8 +1,8 @@
 -- When one world stands in another.
-use Rattle.std.proofs.Common.{◌≡◌, ℕ, zero, suc, List, [], ◌∷◌, ◌++◌, Option, Some, None, Contains, slice_get, refl, ap, ◌∙◌, subst}
-use Rattle.std.proofs.lemmas.Option.{slice_get-get_or}
+use Rattle.std.proofs.Common.{◌≡◌, ℕ, List, [], ◌∷◌, ◌++◌, Option, Some, None, Contains, slice_get, refl, ◌∙◌, subst}
 use Rattle.std.specs.Prelude.{◌↔◌}
 use Rattle.std.specs.List.{AllZip}
+use Rattle.jv_lists.proofs.Places.{get_front, placed}
 use Rattle.jv_types.specs.declared.access.Access.{Access}
 use Rattle.jv_types.specs.declared.shapes.FieldShape.{FieldShape}
 use Rattle.jv_types.specs.declared.shapes.MethodShape.{MethodShape}
@@ -79,12 +79,6 @@ same_onward s t u p q = record {
   methods = zip_onward IsSameMethod method_onward s.methods t.methods u.methods p.methods q.methods;
 }
 
--- what stands in front stands in the whole
-get_front : (xs ys : List Shape) (k : ℕ) (x : Shape) → slice_get xs k ≡ Some x → slice_get (xs ++ ys) k ≡ Some x
-get_front [] ys k x e = absurd cc
-get_front (y ∷ xs) ys zero x e = e
-get_front (y ∷ xs) ys (suc k) x e = get_front xs ys k x e
-
 pub longer : (w more : List Shape) → IsWorld w → HaveDistinctNames (w ++ more) → StandsIn w (w ++ more) (λ c. c)
 longer w more world distinct = record { world = world; distinct = distinct; shapes = λ c s at. (s, get_front w more c s at, same_itself s) }
 
@@ -114,9 +108,6 @@ at_place w v find c s (Some t) e at =
     let p = find c t e in
     let is : t ≡ s = cc in
     (p.1, p.2, subst (λ (x : Shape). IsSameClass x p.1) is p.3)
-
-placed : (v : List Shape) (s : Shape) (p : Contains v s) → slice_get v p.0 ≡ Some s
-placed v s p = slice_get-get_or v p.0 s p.1 ∙ ap (λ (x : Shape). Some x) p.2
 
 pub in_any_order : (w v : List Shape) → IsWorld w → HaveDistinctNames v → ((s : Shape) → Contains w s → (other : Shape) × Contains v other × IsSameClass s other) → (to : ℕ → ℕ) × StandsIn w v to
 in_any_order w v world distinct each = (

@@ -6,6 +6,7 @@ use Rattle.std.specs.List.{list_all}
 use Rattle.std.specs.Ordering.{nat_cmp}
 use Rattle.std.proofs.lemmas.Bool.{and_parts}
 use Rattle.std.proofs.lemmas.List.{append-nil}
+use Rattle.jv_lists.proofs.Tests.{not_true, where_true, none_is}
 use Rattle.jv_table.specs.Rows.{row_of}
 use Rattle.jv_table.specs.CodeRows.{OpForm, opcode_rows}
 use Rattle.jv_table.specs.declared.ops.TheConstants.{IINC}
@@ -43,7 +44,7 @@ use Rattle.jv_typing.specs.Transitions.{AreReplaced}
 use Rattle.jv_typing.specs.References.{Site, Goes, string_type, class_type, const_type, result_types, LoadsItem, IsInitialised, this, made, IsInitTyping, IsSpecialTyping, IsNewTyping, IsLoadRefTyping, IsLoadTyping, IsStoreTyping, IsPutTyping, IsOwnPutTyping, HasRuleTyping}
 use Rattle.jv_typing.specs.Steps.{StepTyping, words, references}
 use Rattle.jv_typing.proofs.TypingOnce.{gives_numbers}
-use Rattle.jv_typing_laws.proofs.Tests.{where_true, where_false, not_true, none_is}
+use Rattle.jv_typing_laws.proofs.Tests.{where_false}
 use Rattle.jv_typing_laws.specs.Formed.{holds_references, are_formed, IsFormed}
 use Rattle.jv_typing_laws.proofs.OneFrame.{initialised_uninit}
 use Rattle.jv_typing_laws.proofs.FormedWords.{behind, in_words_formed, reference_formed, reference_one_word, ref_vtype_reference, ref_vtype_holds, array_holds, array_items, array_is_reference, desc_holds, numbers_formed, some_word_holds, head_parts, MayReplace}

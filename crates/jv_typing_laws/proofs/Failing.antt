@@ -1,5 +1,6 @@
 -- A method with a table fails at no offset.
 use Rattle.std.proofs.Common.{◌≡◌, ℕ, List, Some, sym, subst}
+use Rattle.jv_lists.proofs.Tests.{value_of}
 use Rattle.jv_types.specs.Bodies.{at_offset}
 use Rattle.jv_types.specs.declared.ids.MethodId.{MethodId}
 use Rattle.jv_types.specs.declared.shapes.Shape.{Shape}
@@ -11,7 +12,7 @@ use Rattle.jv_frames.specs.Assignable.{IsFrameAssignable}
 use Rattle.jv_typing.specs.Steps.{StepTyping}
 use Rattle.jv_typing.specs.TypeSafe.{site_at, FitsThere, FitsWhereItGoes, IsTypedAt, IsTypeSafe, IsForced, FailsAt, no_initial, unfit_initial, unforced, misshapen, untyped, unfit}
 use Rattle.jv_typing_laws.proofs.OneFrame.{one_step, one_initial}
-use Rattle.jv_typing_laws.proofs.Rows.{key_start, what_starts, starts_by}
+use Rattle.jv_typing_laws.proofs.Rows.{key_start, starts_by}
 use Rattle.jv_typing_laws.proofs.Forced.{one_forced, all_forced}
 
 -- what fits at a frame of the table fits at one that is forced
@@ -38,7 +39,7 @@ record TypedForced (w : List Shape) (method : MethodId) (body : Body) (maps fram
 typed_forced : (w : List Shape) (method : MethodId) (body : Body) (maps frames : List (ℕ × Frame)) (pc : ℕ) (insn : Insn) → IsTypeSafe w method body maps frames → at_offset pc body.insns ≡ Some insn
     → TypedForced w method body maps frames pc insn
 typed_forced w method body maps frames pc insn safe at =
-    let frame = what_starts (at_offset pc frames) (key_start body.insns frames pc (sym safe.one_each) (starts_by (at_offset pc body.insns) insn at)) in
+    let frame = value_of (at_offset pc frames) (key_start body.insns frames pc (sym safe.one_each) (starts_by (at_offset pc body.insns) insn at)) in
     record { frame = frame.0; forced = all_forced w method body maps frames pc frame.0 safe frame.1; typed = safe.each pc insn frame.0 at frame.1 }
 
 pub never_fails : (w : List Shape) (method : MethodId) (body : Body) (maps frames : List (ℕ × Frame)) (pc : ℕ) → IsTypeSafe w method body maps frames → FailsAt w method body maps pc → ⊥
@@ -50,7 +51,7 @@ never_fails w method body maps frames pc safe (unfit_initial initial first zero 
     let fits : IsFrameAssignable w initial begins.first = subst (λ (f : Frame). IsFrameAssignable w f begins.first) one begins.fits in
     not_fit (subst (λ (f : Frame). IsFrameAssignable w initial f) same fits)
 never_fails w method body maps frames pc safe (unforced start none) =
-    let insn = what_starts (at_offset pc body.insns) start in
+    let insn = value_of (at_offset pc body.insns) start in
     let here = typed_forced w method body maps frames pc insn.0 safe insn.1 in
     none here.frame here.forced
 never_fails w method body maps frames pc safe (misshapen insn at none) = none (typed_forced w method body maps frames pc insn safe at).typed.operands

@@ -2,6 +2,7 @@
 use Rattle.std.proofs.Common.{◌≡◌, ℕ, zero, suc, ◌+◌, ◌<◌, Bool, true, false, List, [], ◌∷◌, Option, Some, None, refl, sym, ap, ◌∙◌, subst, arith}
 use Rattle.std.specs.Prelude.{IsSome, nat_le}
 use Rattle.std.proofs.lemmas.Bool.Decides.{nat_tests}
+use Rattle.jv_lists.proofs.Tests.{value_of}
 use Rattle.jv_types.specs.Bodies.{at_offset, rises_from, IsStart, IsNextStart}
 use Rattle.jv_types.specs.declared.ids.MethodId.{MethodId}
 use Rattle.jv_types.specs.declared.shapes.Shape.{Shape}
@@ -17,7 +18,7 @@ use Rattle.jv_frames.specs.Maps.{frame_delta, AreMapFrames}
 use Rattle.jv_typing.specs.Steps.{StepTyping}
 use Rattle.jv_typing.specs.TypeSafe.{site_at, IsTypedAt, IsTypeSafe, IsForced, first, by_map, left}
 use Rattle.jv_typing_laws.proofs.OneFrame.{one_step, one_initial}
-use Rattle.jv_typing_laws.proofs.Rows.{key_start, what_starts, starts_by, nothing_starts, same_rows, start_before, one_before, keys_rise}
+use Rattle.jv_typing_laws.proofs.Rows.{key_start, starts_by, nothing_starts, same_rows, start_before, one_before, keys_rise}
 
 -- ---- one at each offset
 
@@ -79,8 +80,8 @@ forced_by w method body maps frames (suc pc) frame safe earlier stands None is =
     let begin : IsStart body.insns 0 = insn_at w method body maps frames 0 safe (starts_by (at_offset 0 frames) safe.begins.first safe.begins.stands) in
     let here : IsStart body.insns (suc pc) = insn_at w method body maps frames (suc pc) safe (starts_by (at_offset (suc pc) frames) frame stands) in
     let before = start_before body.insns (suc pc) begin (omega arith) here in
-    let insn = what_starts (at_offset before.start body.insns) before.starts in
-    let from = what_starts (at_offset before.start frames) (frame_at w method body maps frames before.start safe before.starts) in
+    let insn = value_of (at_offset before.start body.insns) before.starts in
+    let from = value_of (at_offset before.start frames) (frame_at w method body maps frames before.start safe before.starts) in
     let forced = earlier before.start from.0 before.next.above from.1 in
     forced_behind w method body maps frames before.start (suc pc) insn.0 from.0 frame forced insn.1 before.next is stands (safe.each before.start insn.0 from.0 insn.1 from.1) (is_end insn.0.op) refl
 

@@ -3,6 +3,7 @@ use Rattle.std.proofs.Common.{◌≡◌, ℕ, ◌+◌, ◌-◌, Bool, true, fals
 use Rattle.std.specs.Prelude.{MatchOption, eqb}
 use Rattle.std.specs.List.{AllZip, list_all}
 use Rattle.std.proofs.lemmas.Bool.{and_parts}
+use Rattle.jv_lists.proofs.Tests.{both_true}
 use Rattle.jv_table.specs.declared.class_tables.FrameGroup.{FrameGroup}
 use Rattle.jv_table.specs.declared.class_tables.FrameGroup.TheVariants.{Same, SameOne, SameOneExtended, Chop, SameExtended, Append, Full}
 use Rattle.jv_types.specs.Bodies.{at_offset}
@@ -25,7 +26,6 @@ use Rattle.jv_frames.specs.Maps.{plain_types, plain_type, IsNumbered, object, un
 use Rattle.jv_typing.specs.Typing.{in_order, StoresWhere}
 use Rattle.jv_typing.specs.Transitions.{AreReplaced}
 use Rattle.jv_typing.specs.TypeSafe.{site_at, AreMapsOf, IsForced, first, by_map, left}
-use Rattle.jv_typing_laws.proofs.Tests.{both_true}
 use Rattle.jv_typing_laws.specs.Formed.{holds_references, are_formed, IsFormed}
 use Rattle.jv_typing_laws.proofs.FormedWords.{join, front, behind, in_words_formed, tops_formed, descs_hold, ref_vtype_holds, cells_begin, whole_formed, whole_begins, order_holds, replaced_formed, stored_formed}
 use Rattle.jv_typing_laws.proofs.CellSteps.{IsCellStep, IsStepOf, by_cells, by_replacing, by_moving, step_of}

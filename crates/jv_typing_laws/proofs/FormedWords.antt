@@ -3,6 +3,7 @@ use Rattle.std.proofs.Common.{◌≡◌, ℕ, zero, suc, Bool, true, false, cond
 use Rattle.std.specs.Prelude.{◌&&◌, map, slice_index_or}
 use Rattle.std.specs.List.{list_all}
 use Rattle.std.proofs.lemmas.Bool.{and_parts}
+use Rattle.jv_lists.proofs.Tests.{both_true, not_true}
 use Rattle.jv_table.specs.declared.code_tables.Cell.{Cell}
 use Rattle.jv_table.specs.declared.code_tables.Cell.TheVariants.{Int, Float, Long, Double, Ref, Null}
 use Rattle.jv_types.specs.declared.desc.PrimType.TheVariants as prims
@@ -17,7 +18,6 @@ use Rattle.jv_frames.specs.Types.{type_words, in_words, ref_vtype, items_vtype, 
 use Rattle.jv_typing.specs.Transitions.{IsReplaced, AreReplaced}
 use Rattle.jv_typing.specs.Typing.{is_top, halved, are_whole, in_order, AreStored}
 use Rattle.jv_typing.proofs.TypingOnce.{is_number, are_numbers}
-use Rattle.jv_typing_laws.proofs.Tests.{both_true, not_true}
 use Rattle.jv_typing_laws.proofs.OneFrame.{is_uninit}
 use Rattle.jv_typing_laws.specs.Formed.{holds_references, are_formed}
 

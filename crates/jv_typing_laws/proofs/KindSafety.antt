@@ -4,6 +4,8 @@ use Rattle.std.specs.Prelude.{IsTrue, All, option_and_then}
 use Rattle.std.specs.List.{flat_map}
 use Rattle.std.proofs.lemmas.Bool.Decides.{nat_tests}
 use Rattle.std.proofs.lemmas.List.{length-append, append-nil}
+use Rattle.jv_lists.proofs.Tests.{value_of}
+use Rattle.jv_lists.proofs.Places.{slice_get-front}
 use Rattle.jv_table.specs.CodeRows.{OpForm}
 use Rattle.jv_table.specs.declared.code_tables.Cell.{Cell}
 use Rattle.jv_table.specs.declared.code_tables.Kind.TheVariants as kinds
@@ -29,13 +31,13 @@ use Rattle.jv_frames.specs.Entry.{begins_uninit, IsInitialFrame}
 use Rattle.jv_typing.specs.Steps.{StepTyping, words, references}
 use Rattle.jv_typing.specs.TypeSafe.{site_at, FitsThere, handler_frame, AreMapsOf, IsTypedAt, IsTypeSafe}
 use Rattle.jv_typing_laws.specs.Formed.{IsFormed}
-use Rattle.jv_typing_laws.proofs.Rows.{key_start, what_starts, starts_by}
+use Rattle.jv_typing_laws.proofs.Rows.{key_start, starts_by}
 use Rattle.jv_typing_laws.proofs.Forced.{all_forced}
 use Rattle.jv_typing_laws.proofs.FormedWords.{in_words_formed}
 use Rattle.jv_typing_laws.proofs.CellSteps.{IsStepOf, by_cells, by_replacing, by_moving, step_of, rule_is_known, desc_holds_cell}
 use Rattle.jv_typing_laws.proofs.FormedFrames.{initial_formed, forced_formed, step_formed, entry_holds}
 use Rattle.jv_typing_laws.proofs.KindsOfWords.{kinds_join}
-use Rattle.jv_typing_laws.proofs.KindsLeft.{get_left, get_right}
+use Rattle.jv_typing_laws.proofs.KindsLeft.{get_right}
 use Rattle.jv_typing_laws.proofs.KindsSaid.{no_more_through, assignable_says, step_says}
 use Rattle.jv_typing_laws.proofs.Returns.{step_returns}
 
@@ -44,7 +46,7 @@ use Rattle.jv_typing_laws.proofs.Returns.{step_returns}
 -- each instruction of a table has the operands of its layout
 table_own : (w : List Shape) (framed : FramedBody) (maps : List (ℕ × Frame)) → IsTypeSafe w framed.method framed.body maps framed.frames → (pc : ℕ) (insn : Insn) → at_offset pc framed.body.insns ≡ Some insn → HasOwnOperands insn
 table_own w framed maps safe pc insn at =
-    let frame = what_starts (at_offset pc framed.frames) (key_start framed.body.insns framed.frames pc (sym safe.one_each) (starts_by (at_offset pc framed.body.insns) insn at)) in
+    let frame = value_of (at_offset pc framed.frames) (key_start framed.body.insns framed.frames pc (sym safe.one_each) (starts_by (at_offset pc framed.body.insns) insn at)) in
     (safe.each pc insn frame.0 at frame.1).operands
 
 pub table_formed : (w : List Shape) (framed : FramedBody) (pc : ℕ) (frame : Frame) (maps : List (ℕ × Frame)) → AreMapsOf w framed.method framed.body maps → IsTypeSafe w framed.method framed.body maps framed.frames
@@ -79,7 +81,7 @@ padded_says kinds n place kind e = by (ltb place (length kinds)) refl
     by : (b : Bool) → ltb place (length kinds) ≡ b → (kind ≡ Unknown) ⊎ (slice_get kinds place ≡ Some kind)
     by true is =
         let lt : place < length kinds = grind (arith, nat_tests) in
-        inr (sym (get_left kinds (kinds_after false (replicate n Top)) place lt) ∙ e)
+        inr (sym (slice_get-front kinds (kinds_after false (replicate n Top)) place lt) ∙ e)
     by false is =
         let le : length kinds ≤ place = grind (arith, nat_tests) in
         let there : place ≡ length kinds + (place - length kinds) = omega (arith, le) in

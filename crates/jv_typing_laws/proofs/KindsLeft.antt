@@ -9,6 +9,8 @@ use Rattle.std.proofs.lemmas.List.{length-append, append-nil}
 use Rattle.std.proofs.lemmas.List.Sums.{sum_by-cons}
 use Rattle.std.proofs.lemmas.List.FromFn.{length-map-range_with_len}
 use Rattle.std.proofs.lemmas.Option.{slice_get_within}
+use Rattle.jv_lists.proofs.Tests.{not_true, where_true}
+use Rattle.jv_lists.proofs.Places.{slice_get-front}
 use Rattle.jv_table.specs.CodeRows.{OpForm, opcode_rows}
 use Rattle.jv_table.specs.declared.ops.TheConstants.{IINC}
 use Rattle.jv_table.specs.declared.code_tables.Cell.{Cell}
@@ -23,16 +25,10 @@ use Rattle.jv_insn.specs.Leaving.{Place, AtLocal, AtStack, Words, words_taken, w
 use Rattle.jv_insn.proofs.HeldCells.{held_kinds}
 use Rattle.jv_insn.proofs.Leaving.{below_left, stays_left, given_anew, stands_after, word_left, word_given}
 use Rattle.jv_insn.proofs.Tables.{row_passes, row_cells_given}
-use Rattle.jv_typing_laws.proofs.Tests.{where_true, not_true}
 use Rattle.jv_typing_laws.proofs.KindsOfWords.{held_local}
 use Rattle.jv_typing_laws.proofs.CellSteps.{IsCellStep}
 
 -- ---- lists by their places
-
-pub get_left : {X : Type 0} (xs ys : List X) (i : ℕ) → i < length xs → slice_get (xs ++ ys) i ≡ slice_get xs i
-get_left [] ys i lt = absurd (omega arith)
-get_left (x ∷ xs) ys zero lt = refl
-get_left (x ∷ xs) ys (suc i) lt = get_left xs ys i (omega arith)
 
 pub get_right : {X : Type 0} (xs ys : List X) (i n : ℕ) → i ≡ length xs + n → slice_get (xs ++ ys) i ≡ slice_get ys n
 get_right [] ys i n e = let same : i ≡ n = omega (arith, e) in ap (slice_get ys) same
@@ -115,8 +111,8 @@ stack_says insn words below taken given c are place kind e = by (ltb place (leng
 
     low : place < length below → slice_get (kinds_left insn words).stack place ≡ Some kind
     low lt =
-        let own : slice_get below place ≡ Some kind = sym (get_left below given place lt) ∙ e in
-        let at : slice_get words.stack place ≡ Some kind = ap (λ (l : List WordKind). slice_get l place) c.whole ∙ get_left below taken place lt ∙ own in
+        let own : slice_get below place ≡ Some kind = sym (slice_get-front below given place lt) ∙ e in
+        let at : slice_get words.stack place ≡ Some kind = ap (λ (l : List WordKind). slice_get l place) c.whole ∙ slice_get-front below taken place lt ∙ own in
         stands_after insn (kind_given insn (length words.stack)) words (AtStack place) (omega (arith, after, lt))
         ∙ ap Some (word_left insn (kind_given insn (length words.stack)) words (AtStack place) (AtStack place) kind (below_left insn (length words.stack) place (omega (arith, under, lt))) at)
 

@@ -1,6 +1,7 @@
 -- The kinds of words: those of joined words, of what may stand for others, and what says no more than others.
 use Rattle.std.proofs.Common.{◌≡◌, ℕ, zero, suc, ◌+◌, Bool, true, false, List, [], ◌∷◌, ◌++◌, length, take, drop, Some, slice_get, refl, sym, ap, ◌∙◌, subst, ◌⊎◌, inl, inr, arith}
 use Rattle.std.specs.List.{AllZip}
+use Rattle.jv_lists.proofs.Tests.{not_true}
 use Rattle.jv_table.specs.declared.code_tables.Cell.{Cell}
 use Rattle.jv_table.specs.declared.code_tables.Cell.TheVariants.{Int, Float, Long, Double, Ref, Null}
 use Rattle.jv_types.specs.declared.shapes.Shape.{Shape}
@@ -13,7 +14,6 @@ use Rattle.jv_insn.proofs.HeldCells.{reference_kind}
 use Rattle.jv_frames.proofs.Arrays.{is_object-Array}
 use Rattle.jv_typing.specs.Typing.{is_top}
 use Rattle.jv_typing.specs.Transitions.{IsReplaced, AreReplaced}
-use Rattle.jv_typing_laws.proofs.Tests.{not_true}
 use Rattle.jv_typing_laws.specs.Formed.{are_formed}
 use Rattle.jv_typing_laws.proofs.OneFrame.{is_uninit, same_head}
 use Rattle.jv_typing_laws.proofs.FormedWords.{head_parts, fits_behind, MayReplace, uninit_no_second, uninit_narrow}

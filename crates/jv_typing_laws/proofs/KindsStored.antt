@@ -5,6 +5,7 @@ use Rattle.std.specs.List.{AllZip, flat_map, list_any}
 use Rattle.std.proofs.lemmas.Bool.Decides.{nat_tests}
 use Rattle.std.proofs.lemmas.List.{length-append}
 use Rattle.std.proofs.lemmas.List.Sums.{sum_by-cons}
+use Rattle.jv_lists.proofs.Places.{slice_get-front}
 use Rattle.jv_table.specs.declared.ops.TheConstants.{IINC}
 use Rattle.jv_table.specs.declared.code_tables.Cell.{Cell}
 use Rattle.jv_types.specs.declared.instruction.Insn.{Insn}
@@ -23,7 +24,7 @@ use Rattle.jv_typing_laws.specs.Formed.{are_formed, IsFormed}
 use Rattle.jv_typing_laws.proofs.FormedWords.{head_parts, fits_behind, behind, halved_front}
 use Rattle.jv_typing_laws.proofs.KindsOfWords.{kinds_join, kinds_long, IsLess, less_says, less_itself}
 use Rattle.jv_typing_laws.proofs.CellSteps.{IsCellStep}
-use Rattle.jv_typing_laws.proofs.KindsLeft.{get_left, get_right, width_long, covers, writes_are, stays}
+use Rattle.jv_typing_laws.proofs.KindsLeft.{get_right, width_long, covers, writes_are, stays}
 
 -- ---- words that lost a half, and words behind those that are stored
 
@@ -149,13 +150,13 @@ store_says insn words before lost rest halves taken later p place kind e = by (l
 
     low : place < length halves → (kind ≡ Unknown) ⊎ (slice_get (kinds_left insn words).locals place ≡ Some kind)
     low lt =
-        let at : slice_get halves place ≡ Some kind = sym (get_left halves (taken ++ later) place lt) ∙ e in
-        let same : slice_get words.locals place ≡ slice_get before place = ap (λ (l : List WordKind). slice_get l place) p.whole ∙ get_left before (lost ++ rest) place (omega (arith, lt, p.as_long)) in
+        let at : slice_get halves place ≡ Some kind = sym (slice_get-front halves (taken ++ later) place lt) ∙ e in
+        let same : slice_get words.locals place ≡ slice_get before place = ap (λ (l : List WordKind). slice_get l place) p.whole ∙ slice_get-front before (lost ++ rest) place (omega (arith, lt, p.as_long)) in
         kept (inl (omega (arith, lt, p.as_long, p.place))) (lift place before place same (less_says halves before p.less place kind at))
 
     middle : (n : ℕ) → place ≡ length halves + n → n < length taken → (kind ≡ Unknown) ⊎ (slice_get (kinds_left insn words).locals place ≡ Some kind)
     middle n is lt =
-        let at : slice_get taken n ≡ Some kind = sym (get_left taken later n lt) ∙ sym (get_right halves (taken ++ later) place n is) ∙ e in
+        let at : slice_get taken n ≡ Some kind = sym (slice_get-front taken later n lt) ∙ sym (get_right halves (taken ++ later) place n is) ∙ e in
         let depth : ℕ = length words.stack in
         let width : ℕ = width_of (cells_taken insn.op insn.arg) in
         let long : length words.stack ≡ length p.under + length taken = ap length p.stack ∙ length-append p.under taken in

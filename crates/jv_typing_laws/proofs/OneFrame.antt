@@ -3,6 +3,7 @@ use Rattle.std.proofs.Common.{◌≡◌, ℕ, Bool, true, false, not, if◌then�
 use Rattle.std.specs.List.{AllZip, list_all}
 use Rattle.std.specs.Option.{option_map_or}
 use Rattle.std.specs.Ordering.{nat_cmp}
+use Rattle.jv_lists.proofs.Zips.{one_zip}
 use Rattle.jv_table.specs.Rows.{row_of}
 use Rattle.jv_table.specs.CodeRows.{OpForm, opcode_rows}
 use Rattle.jv_table.specs.declared.code_tables.Kind.{Kind}
@@ -31,7 +32,6 @@ use Rattle.jv_frames.specs.Types.{is_uninit_this, is_object, in_words, frame_of,
 use Rattle.jv_frames.specs.Assignable.{IsAssignable, same, to_top, of_null, of_class, of_array, of_items}
 use Rattle.jv_frames.specs.Entry.{IsInitialFrame}
 use Rattle.jv_frames.proofs.Arrays.{same_items, is_object-Array}
-use Rattle.jv_frames.proofs.Determined.{one_list}
 use Rattle.jv_frames.proofs.OneAnswer.{one_entry}
 use Rattle.jv_typing.specs.declared.rules.RefRule.{RefRule}
 use Rattle.jv_typing.specs.declared.rules.RefRule.TheVariants as rules
@@ -60,7 +60,7 @@ one_replaced_type old new x y z (inr h) (inl k) = absurd (h.0 k.0)
 one_replaced_type old new x y z (inr h) (inr k) = h.1 ∙ sym k.1
 
 one_replaced : (old new : VType) (xs ys zs : List VType) → AreReplaced old new xs ys → AreReplaced old new xs zs → ys ≡ zs
-one_replaced old new xs ys zs h k = one_list (IsReplaced old new) (one_replaced_type old new) xs ys zs h k
+one_replaced old new xs ys zs h k = one_zip (IsReplaced old new) (one_replaced_type old new) xs ys zs h k
 
 -- the same where the types are the same
 one_replaced_by : (old new other fresh : VType) (xs ws ys zs : List VType) → old ≡ other → new ≡ fresh → xs ≡ ws → AreReplaced old new xs ys → AreReplaced other fresh ws zs → ys ≡ zs

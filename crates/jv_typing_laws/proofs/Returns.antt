@@ -4,6 +4,7 @@ use Rattle.std.specs.Prelude.{◌&&◌}
 use Rattle.std.specs.List.{AllZip, list_all}
 use Rattle.std.specs.Ordering.{nat_cmp}
 use Rattle.std.proofs.lemmas.Bool.{and_parts}
+use Rattle.jv_lists.proofs.Tests.{not_true}
 use Rattle.jv_table.specs.Rows.{row_of}
 use Rattle.jv_table.specs.CodeRows.{OpForm, opcode_rows}
 use Rattle.jv_table.specs.declared.code_tables.Cell.{Cell}
@@ -34,7 +35,6 @@ use Rattle.jv_typing.specs.Rules.{ref_rules}
 use Rattle.jv_typing.specs.Typing.{is_top}
 use Rattle.jv_typing.specs.References.{Site, HasRuleTyping, IsReturnTyping, IsVoidTyping}
 use Rattle.jv_typing.specs.Steps.{StepTyping, words, references}
-use Rattle.jv_typing_laws.proofs.Tests.{not_true}
 use Rattle.jv_typing_laws.proofs.FormedWords.{ref_vtype_reference, reference_no_top}
 use Rattle.jv_typing_laws.proofs.OneFrame.{same_head}
 use Rattle.jv_typing_laws.proofs.KindsOfWords.{plain_same, to_object}

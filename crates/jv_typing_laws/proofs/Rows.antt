@@ -31,11 +31,6 @@ key_start (x ∷ xs) (y ∷ ys) pc e s =
     by true false e s more = absurd cc
     by false true e s more = absurd cc
 
--- what starts there
-pub what_starts : {X : Type 0} (o : Option X) → IsSome o → (x : X) × (o ≡ Some x)
-what_starts None s = absurd cc
-what_starts (Some x) s = (x, refl)
-
 pub starts_by : {X : Type 0} (o : Option X) (x : X) → o ≡ Some x → IsSome o
 starts_by o x e = rw e refl
 

@@ -2,6 +2,7 @@
 use Rattle.std.proofs.Common.{◌≡◌, ℕ, ◌<◌, ◌≤◌, Bool, false, List, length, get_or, Option, Some, None, sym, subst, inl, inr, arith}
 use Rattle.std.specs.Prelude.{min}
 use Rattle.std.proofs.lemmas.Bool.{cases_lt}
+use Rattle.jv_lists.proofs.Tests.{value_of}
 use Rattle.jv_types.specs.Bodies.{at_offset, IsStart}
 use Rattle.jv_types.specs.declared.ids.MethodId.{MethodId}
 use Rattle.jv_types.specs.declared.shapes.Shape.{Shape}
@@ -9,7 +10,7 @@ use Rattle.jv_types.specs.declared.instruction.Insn.{Insn}
 use Rattle.jv_types.specs.declared.body.Body.{Body}
 use Rattle.jv_types.specs.declared.frames.Frame.{Frame}
 use Rattle.jv_names.proofs.NamedOnce.{given_twice}
-use Rattle.jv_typing_laws.proofs.Rows.{what_starts, starts_by}
+use Rattle.jv_typing_laws.proofs.Rows.{starts_by}
 use Rattle.av_conditions.proofs.Standing.{HoldsBefore, holds_of_all, holds_of_earlier, stands_at}
 use Rattle.jv_verify.specs.Steps.Checking.{IsTypedThere, IsTypedIf, FailsItself, IsCheckedAt, Decides, FailsFirst, FailsHere, unfit, FirstFails, SatisfiesAllAt, FailsSomeAt, IsLeastBad, earlier}
 
@@ -65,7 +66,7 @@ handler_first : (w : List Shape) (method : MethodId) (body : Body) (rows : List 
     → FailsSomeAt w rows body.handlers pc → ((other : ℕ) → other < pc → IsTypedIf w method body rows other) → ((other : ℕ) → other < pc → SatisfiesAllAt w rows body.handlers other)
     → FailsFirst w method body rows pc
 handler_first w method body rows pc starts here fails typed satisfied =
-    let what = what_starts (at_offset pc body.insns) (starts pc (starts_by (at_offset pc rows) fails.2.frame fails.2.stands)) in
+    let what = value_of (at_offset pc body.insns) (starts pc (starts_by (at_offset pc rows) fails.2.frame fails.2.stands)) in
     record {
       insn = what.0;
       stands = what.1;

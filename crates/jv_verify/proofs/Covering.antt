@@ -7,6 +7,7 @@ use Rattle.std.proofs.lemmas.Bool.{cases_lt}
 use Rattle.std.proofs.lemmas.Bool.Decides.{nat_tests}
 use Rattle.std.proofs.lemmas.List.{get_or-take, get_or-drop, get_or_default, length-drop, length-take-le, take_all, take_more}
 use Rattle.std.proofs.lemmas.List.Elements.{All-get_or, Contains-append_cases, Contains-append_left, Contains-append_right}
+use Rattle.jv_lists.proofs.Among.{first_or_later, is_first}
 use Rattle.jv_types.specs.Bodies.{at_offset, rises_from}
 use Rattle.jv_types.specs.declared.shapes.Shape.{Shape}
 use Rattle.jv_types.specs.declared.body.Handler.{Handler}
@@ -19,7 +20,6 @@ use Rattle.jv_frames.specs.Assignable.{IsAssignable, IsFrameAssignable}
 use Rattle.jv_typing.specs.TypeSafe.{caught_name, throwable_name, handler_frame}
 use Rattle.jv_typing_laws.proofs.Rows.{starts_by}
 use Rattle.jv_verify.specs.Steps.Checking.{FitsTarget, IsTarget, SatisfiesAt, FailsHandlerAt, SatisfiesAllAt, FailsSomeAt, AreWithin, IsFirstWithout, IsLeastBad, earlier}
-use Rattle.jv_verify.proofs.Each.{first_or_later, is_first}
 
 -- ---- the target of a handler
 

@@ -1,7 +1,8 @@
 -- The frames that are forced, one after the other.
-use Rattle.std.proofs.Common.{◌≡◌, ℕ, suc, ◌+◌, ◌<◌, ◌≤◌, List, [], ◌∷◌, ◌++◌, length, drop, get_or, append_assoc, Option, refl, sym, ap, ◌∙◌, subst, add-one, drop-cons}
+use Rattle.std.proofs.Common.{◌≡◌, ℕ, ◌+◌, ◌<◌, ◌≤◌, List, [], ◌∷◌, ◌++◌, length, drop, get_or, append_assoc, Option, refl, sym, ap, subst}
 use Rattle.std.specs.Prelude.{Some, None}
 use Rattle.std.proofs.lemmas.List.{drop_all, append-nil}
+use Rattle.jv_lists.proofs.Places.{drop_one}
 use Rattle.jv_types.specs.Bodies.{at_offset}
 use Rattle.jv_types.specs.declared.ids.MethodId.{MethodId}
 use Rattle.jv_types.specs.declared.shapes.Shape.{Shape}
@@ -9,11 +10,6 @@ use Rattle.jv_types.specs.declared.instruction.Insn.{Insn}
 use Rattle.jv_types.specs.declared.body.Body.{Body}
 use Rattle.jv_types.specs.declared.frames.Frame.{Frame}
 use Rattle.jv_verify.specs.Steps.Forcing.{forced_here, with_frame, IsLeft, AreForcedFrom, ForcesOn}
-
--- what is left begins with the next instruction
-left : (insns : List (ℕ × Insn)) (n : ℕ) (row : ℕ × Insn) → n < length insns → row ≡ get_or insns n row → drop n insns ≡ row ∷ drop (n + 1) insns
-left insns n row below is =
-    rw (add-one) (drop-cons insns n row below ∙ ap (λ (x : ℕ × Insn). x ∷ drop (suc n) insns) (sym is))
 
 pub begins : (w : List Shape) (method : MethodId) (body : Body) (maps : List (ℕ × Frame)) (begun : Option Frame) → ForcesOn w method body maps begun begun [] 0
 begins w method body maps begun = record { makes = λ rest h. h }
@@ -33,7 +29,7 @@ goes_on w method body maps begun before next rows n row below is so_far leaves =
       makes = λ rest h.
           let now : AreForcedFrom w method body maps before (row ∷ drop (n + 1) body.insns) (with_frame row.0 here rest) = (next, rest, leaves, h, refl) in
           rw (put_either row.0 here rows rest) (so_far.makes (with_frame row.0 here rest)
-          (subst (λ (is : List (ℕ × Insn)). AreForcedFrom w method body maps before is (with_frame row.0 here rest)) (sym (left body.insns n row below is)) now));
+          (subst (λ (is : List (ℕ × Insn)). AreForcedFrom w method body maps before is (with_frame row.0 here rest)) (sym (drop_one body.insns n row below is)) now));
     }
 
 pub ends : (w : List Shape) (method : MethodId) (body : Body) (maps : List (ℕ × Frame)) (begun before : Option Frame) (rows : List (ℕ × Frame)) (n : ℕ) → length body.insns ≤ n

@@ -2,6 +2,7 @@
 use Rattle.std.proofs.Common.{◌≡◌, ℕ, ◌+◌, ◌<◌, ◌≤◌, Bool, true, false, cond, eqb, ltb, List, [], ◌∷◌, map, Option, Some, None, refl, sym, ap, ◌∙◌, subst, arith}
 use Rattle.std.specs.Prelude.{IsSome}
 use Rattle.std.proofs.lemmas.Bool.Decides.{nat_tests}
+use Rattle.jv_lists.proofs.Tests.{value_of}
 use Rattle.jv_types.specs.Bodies.{at_offset, rises_from, IsStart, IsNextStart}
 use Rattle.jv_types.specs.declared.ids.MethodId.{MethodId}
 use Rattle.jv_types.specs.declared.shapes.Shape.{Shape}
@@ -15,7 +16,7 @@ use Rattle.jv_frames.specs.Assignable.{IsFrameAssignable, same}
 use Rattle.jv_typing.specs.Steps.{StepTyping}
 use Rattle.jv_typing.specs.TypeSafe.{site_at, FitsThere, FitsWhereItGoes, BeginsRight, IsTypedAt, IsTypeSafe, IsForced, first, by_map, left, FailsAt, no_initial, unfit_initial, unforced, misshapen, untyped, unfit, FailsLeastAt}
 use Rattle.jv_typing_laws.proofs.OneFrame.{one_step, one_initial}
-use Rattle.jv_typing_laws.proofs.Rows.{what_starts, starts_by, nothing_starts, one_before}
+use Rattle.jv_typing_laws.proofs.Rows.{starts_by, nothing_starts, one_before}
 use Rattle.jv_verify.specs.Steps.Forcing.{forced_here, with_frame, AreForcedFrom, AreForced}
 use Rattle.jv_verify.specs.Steps.Checking.{StandsIn, IsCheckedAt, FailsHere, AreChecked, FailsFirst, FitsFirst, HasBegun, IsReady}
 use Rattle.jv_verify.specs.Steps.Checking as checks
@@ -130,7 +131,7 @@ table_is_made w method body maps rows initial made checked = record {
 }
   where
     check_at : (pc : ℕ) → IsStart body.insns pc → (insn : Insn) × IsCheckedAt w method body rows pc insn
-    check_at pc s = let what = what_starts (at_offset pc body.insns) s in (what.0, checked pc what.0 what.1)
+    check_at pc s = let what = value_of (at_offset pc body.insns) s in (what.0, checked pc what.0 what.1)
 
     stands_at : (pc : ℕ) → IsStart body.insns pc → IsStart rows pc
     stands_at pc s = let h = (check_at pc s).1 in starts_by (at_offset pc rows) h.frame h.stands
@@ -202,7 +203,7 @@ passes_there w method body maps rows initial made pc checked (unfit_initial own 
     let one : initial ≡ own = one_initial w method body.max_locals initial own made.begun.is is in
     none (subst (λ (f : Frame). IsFrameAssignable w f map) one (made.begun.fits map at))
 passes_there w method body maps rows initial made pc checked (unforced s none) =
-    let what = what_starts (at_offset pc body.insns) s in
+    let what = value_of (at_offset pc body.insns) s in
     let h = checked what.0 what.1 in
     none h.frame (to_forced w method body maps rows initial made pc h.frame h.stands)
 passes_there w method body maps rows initial made pc checked (misshapen insn at none) = none (made.ready.operands pc insn at)

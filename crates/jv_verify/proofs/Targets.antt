@@ -1,11 +1,11 @@
 -- A frame at the targets of an instruction.
 use Rattle.std.proofs.Common.{◌≡◌, ℕ, List, ◌∷◌, ◌⊎◌, inl, inr, subst}
 use Rattle.std.specs.Prelude.{◌↔◌, Contains}
+use Rattle.jv_lists.proofs.Among.{first_or_later, is_later}
 use Rattle.jv_types.specs.declared.shapes.Shape.{Shape}
 use Rattle.jv_types.specs.declared.frames.Frame.{Frame}
 use Rattle.jv_typing.specs.TypeSafe.{FitsThere}
 use Rattle.jv_verify.specs.Steps.Checking.{StandsIn, FitsAtEach}
-use Rattle.jv_verify.proofs.Each.{first_or_later, is_later}
 
 -- the default first, and then the others
 pub later_decide : (w : List Shape) (rows : List (ℕ × Frame)) (default : ℕ) (targets : List ℕ) (frame : Frame) → FitsThere w (StandsIn rows) default frame

@@ -9,9 +9,11 @@ use Rattle.std.specs.Cmp.{IsTotalOrder, IsStrictWeakOrder}
 use Rattle.std.specs.Cmp.Lexicographic.{slice_cmp, options_total, nat_list_cmp_total}
 use Rattle.std.proofs.lemmas.Cmp.{nat_cmp_total, then_total, on_total, tied_itself}
 use Rattle.std.proofs.lemmas.Bool.{cases_lt, false≢true}
-use Rattle.std.proofs.lemmas.Option.{slice_get_within, slice_get-get_or, get_or_from_slice_get}
+use Rattle.std.proofs.lemmas.Option.{slice_get_within}
 use Rattle.std.proofs.lemmas.List.FromFn.{length-range_with_len, get_or-range_with_len}
 use Rattle.std.proofs.lemmas.List.Sorted.{ranks_by, sorted_far, Contains-permutation}
+use Rattle.jv_lists.proofs.Places.{same_at}
+use Rattle.jv_lists.proofs.Tests.{is_eq-Equal}
 use Rattle.jv_equality.proofs.Exact.{text_ties}
 use Rattle.jv_world.specs.Steps.Ordered.{AreOrdered, key_at, named_cmp, place_cmp}
 use Rattle.jv_world.proofs.Choices.{by_bool}
@@ -48,16 +50,8 @@ then_ties Less b e = absurd cc
 then_ties Equal b e = (refl, e)
 then_ties Greater b e = absurd cc
 
-is_equal : (o : Ordering) → is_eq o ≡ true → o ≡ Equal
-is_equal Less e = absurd cc
-is_equal Equal e = refl
-is_equal Greater e = absurd cc
-
 nat_below : (a b : ℕ) → a < b → nat_cmp a b ≡ Less
 nat_below a b low = search rules
-
-same_default : (ns : List ℕ) (i d e : ℕ) → i < length ns → get_or ns i d ≡ get_or ns i e
-same_default ns i d e lt = get_or_from_slice_get ns i (get_or ns i e) d (slice_get-get_or ns i e lt)
 
 -- neither the less nor the same
 is_greater : (o : Ordering) → is_lt o ≡ false → is_eq o ≡ false → o ≡ Greater
@@ -133,7 +127,7 @@ module _ {X K : Type 0} {R : K → K → Ordering} (o : IsTotalOrder R) (key : X
 
         far_here : (q j : ℕ) → at ≤ j → j < length places → get_or places j q ≡ q → is_lt (place_cmp R key xs q p) ≡ false
         far_here q j le lt e =
-            let at_q : p ≡ get_or places at q = here ∙ same_default places at p q within in
+            let at_q : p ≡ get_or places at q = here ∙ same_at places at p q within in
             ap (λ (a : ℕ). is_lt (place_cmp R key xs q a)) at_q ∙ ap (λ (a : ℕ). is_lt (place_cmp R key xs a (get_or places at q))) (sym e) ∙ far at j q le lt
 
         -- where the key there is another, no place has this one
@@ -154,7 +148,7 @@ module _ {X K : Type 0} {R : K → K → Ordering} (o : IsTotalOrder R) (key : X
 
           -- where it is this one, the place is the first that has it
           pub found_there : (x : X) × (slice_get xs p ≡ Some x) × (key x ≡ k)
-          found_there = tied_key (slice_get xs p) (is_equal _ same)
+          found_there = tied_key (slice_get xs p) (is_eq-Equal _ same)
 
           pub first_there : (q : ℕ) (y : X) → q < p → slice_get xs q ≡ Some y → key y ≡ k → ⊥
           first_there q y low got is =

@@ -1,5 +1,5 @@
 -- The search for what links lead to.
-use Rattle.std.proofs.Common.{◌≡◌, ◌≢◌, ℕ, zero, suc, ◌+◌, ◌<◌, ◌≤◌, Bool, false, IsTrue, List, [], ◌∷◌, ◌++◌, length, map, set, get_or, Contains, Some, nat_eq, slice_get, IsPermutation, IsSorted, refl, sym, ap, ◌∙◌, subst, ⊎_elim, arith}
+use Rattle.std.proofs.Common.{◌≡◌, ◌≢◌, ℕ, ◌+◌, ◌<◌, ◌≤◌, Bool, false, IsTrue, List, [], ◌∷◌, ◌++◌, length, map, set, get_or, Contains, Some, nat_eq, slice_get, IsPermutation, IsSorted, refl, sym, ap, ◌∙◌, subst, ⊎_elim, arith}
 use Rattle.std.specs.List.{IsDistinct}
 use Rattle.std.specs.List.Sorted.{IsStrictlyIncreasing}
 use Rattle.std.specs.Ordering.{nat_cmp}
@@ -12,6 +12,7 @@ use Rattle.std.proofs.lemmas.Option.{none-some, same_Some, slice_get-get_or}
 use Rattle.std.proofs.lemmas.List.Sorted.{Contains-permutation, IsPermutation-sym, IsPermutation-map}
 use Rattle.std.proofs.lemmas.Map.Keys.{IsDistinct-from_apart, IsDistinct-IsPermutation, apart_from_distinct, ge_from_not_lt}
 use Rattle.std.specs.Cmp.{nat_eq_equiv}
+use Rattle.jv_lists.proofs.Places.{slice_get-front}
 use Rattle.jv_types.specs.declared.ids.ClassId.{ClassId}
 use Rattle.jv_world.specs.Steps.Building.{Has, IsLinked, IsLedTo, straight, onward, IsClear, IsFound, marked, IsMarking, AddsAll, AreLed, AreLedFrom}
 use Rattle.jv_world.proofs.Marking.{marked_below, AddsAll-same}
@@ -54,11 +55,6 @@ IsSearch-start links c marks found new_marks new_found clear adds = record {
       (adds.only d h);
   followed = λ k e before. absurd (omega (arith, before));
 }
-
-slice_get-front : {A : Type 0} (xs ys : List A) (i : ℕ) → i < length xs → slice_get (xs ++ ys) i ≡ slice_get xs i
-slice_get-front [] ys i below = absurd (omega (arith, below))
-slice_get-front (x ∷ xs) ys zero below = refl
-slice_get-front (x ∷ xs) ys (suc i) below = slice_get-front xs ys i (omega (arith, below))
 
 pub IsSearch-step : (links : List (Vec ClassId Global)) (c : ℕ) (marks : List Bool) (found : List ClassId) (new_marks : List Bool) (new_found : List ClassId) (i : ℕ) (next : ClassId)
     → i < length found → next ≡ get_or found i next → AddsAll (IsLinked links next.number) marks found new_marks new_found → IsSearch links c marks found i

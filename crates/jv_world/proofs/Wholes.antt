@@ -1,5 +1,5 @@
 -- Which classes are whole.
-use Rattle.std.proofs.Common.{◌≡◌, ℕ, ◌+◌, ◌<◌, ◌≤◌, Bool, true, false, not, IsTrue, List, [], ◌∷◌, ◌++◌, length, map, take, get_or, Contains, Some, slice_get, refl, sym, ap, ◌∙◌, subst, inl, inr, ⊎_elim, arith}
+use Rattle.std.proofs.Common.{◌≡◌, ℕ, ◌+◌, ◌<◌, ◌≤◌, Bool, true, false, not, IsTrue, List, [], ◌∷◌, ◌++◌, length, map, take, Contains, Some, slice_get, refl, sym, ap, ◌∙◌, subst, inl, inr, ⊎_elim, arith}
 use Rattle.std.specs.Prelude.{◌↔◌}
 use Rattle.std.specs.declared.alloc.Global.{Global}
 use Rattle.std.specs.declared.vec.Vec.{Vec}
@@ -115,9 +115,6 @@ pub marked_all : (classes : List ClassId) (i : ℕ) (marks : List Bool) → leng
     → IsTrue true ↔ ((n : ℕ) → Has classes n → IsTrue (marked marks n))
 marked_all classes i marks past before =
     (λ _. let P : List ClassId → Type 0 = λ l. (n : ℕ) → Has l n → IsTrue (marked marks n) in subst P (take_all i classes past) before, λ _. refl)
-
-pub shape_there : (w : List Shape) (c : ℕ) (shape : Shape) → c < length w → shape ≡ get_or w c shape → slice_get w c ≡ Some shape
-shape_there w c shape here is = slice_get-get_or w c shape here ∙ ap Some (sym is)
 
 -- ---- whole classes
 

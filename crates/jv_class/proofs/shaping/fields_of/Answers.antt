@@ -1,7 +1,7 @@
 use Rattle.jv_class.specs.Shapes.{IsFieldShape}
-use Rattle.jv_class.proofs.ListLemmas.{zip_more}
 use Rattle.jv_class.proofs.shaping.fields_of.Goals as goal
+use Rattle.jv_lists.proofs.Zips.{zip_more_of}
 
 pub loop-member-preserved : goal.loop-member-preserved
 loop-member-preserved c =
-    rw c.in_ok-push.ensures.items (zip_more (IsFieldShape c.args.pool.now) c.args.members.now c.loop-member.fields.items c.loop-member.member-index c.member-item.result c.in_ok-field.field c.loop-member-test.true c.member-item.is c.loop-member.invariant c.in_ok-field.ensures)
+    rw c.in_ok-push.ensures.items (zip_more_of (IsFieldShape c.args.pool.now) c.args.members.now c.loop-member.fields.items c.loop-member.member-index c.member-item.result c.in_ok-field.field c.loop-member-test.true c.member-item.is c.loop-member.invariant c.in_ok-field.ensures)

@@ -1,7 +1,7 @@
 use Rattle.std.proofs.Common.{◌≡◌, List, ℕ, ◌∷◌, sym, ◌∙◌}
+use Rattle.jv_lists.proofs.Places.{heads}
 use Rattle.jv_desc.proofs.DescReading.{params_more, params_stuck}
 use Rattle.jv_desc.proofs.Fronts.{same_refusal}
-use Rattle.jv_desc.proofs.RefReading.{heads}
 use Rattle.jv_desc.proofs.types_read.params_at.Goals as goal
 
 pub loop-first-preserved : goal.loop-first-preserved

@@ -1,7 +1,8 @@
 use Rattle.jv_attr.specs.declared.frame.MapType.{MapType}
 use Rattle.jv_frames.specs.Maps.{IsTypeOf}
-use Rattle.jv_frames.proofs.Determined.{zip_more, list_none}
+use Rattle.jv_frames.proofs.Determined.{list_none}
 use Rattle.jv_frames.proofs.map_types.types_of.Goals as goal
+use Rattle.jv_lists.proofs.Zips.{zip_more}
 
 -- any written type
 any : MapType

@@ -1,9 +1,10 @@
 -- Each turn of the loop is one row.
 use Rattle.std.proofs.Common.{refl}
+use Rattle.jv_lists.proofs.Zips.{zip_more_of}
 use Rattle.jv_insn.specs.Meanings.{IsInsn}
 use Rattle.jv_insn.specs.Decoding.{IsRow}
 use Rattle.jv_insn.proofs.Refusing.{bad_means}
-use Rattle.jv_insn.proofs.RowLoops.{zip_more_of, insn_fails_of}
+use Rattle.jv_insn.proofs.RowLoops.{insn_fails_of}
 use Rattle.jv_insn.proofs.insns.insns_of.Goals as goal
 
 pub returns-in-Err-Bad : goal.returns-in-Err-Bad

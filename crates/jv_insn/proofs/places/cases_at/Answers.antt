@@ -2,10 +2,10 @@
 use Rattle.std.proofs.Common.{rules, ℕ, pos, get_or}
 use Rattle.std.specs.Int.{w32}
 use Rattle.std.proofs.lemmas.Int.{to_z-of_z}
+use Rattle.jv_lists.proofs.Zips.{zip_more}
 use mir.Val.{SFits, to_z, of_z}
 use Rattle.jv_insn.specs.Meanings.{LeadsTo, LeadsCase}
 use Rattle.jv_insn.proofs.Bits.{of_bits}
-use Rattle.jv_insn.proofs.RowLoops.{zip_more}
 use Rattle.jv_insn.proofs.Leading.{zip_stuck}
 use Rattle.jv_insn.proofs.places.cases_at.Goals as goal
 

@@ -1,10 +1,10 @@
 -- An offset that leads nowhere leaves the list without targets.
 use Rattle.std.proofs.Common.{rules, ℕ, pos, get_or}
 use Rattle.std.specs.Int.{w32}
+use Rattle.jv_lists.proofs.Zips.{zip_more}
 use mir.Val.{SFits}
 use Rattle.jv_insn.specs.Meanings.{LeadsTo}
 use Rattle.jv_insn.proofs.Bits.{of_bits}
-use Rattle.jv_insn.proofs.RowLoops.{zip_more}
 use Rattle.jv_insn.proofs.Leading.{zip_stuck}
 use Rattle.jv_insn.proofs.places.targets_at.Goals as goal
 

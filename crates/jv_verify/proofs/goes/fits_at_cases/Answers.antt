@@ -1,8 +1,9 @@
 use Rattle.std.proofs.Common.{ℕ, refl, subst}
 use Rattle.std.proofs.lemmas.List.Elements.{All-more}
+use Rattle.jv_lists.proofs.Among.{mapped_from}
 use Rattle.jv_typing.specs.TypeSafe.{FitsThere}
 use Rattle.jv_verify.specs.Steps.Checking.{StandsIn}
-use Rattle.jv_verify.proofs.Each.{passed, mapped_from}
+use Rattle.jv_verify.proofs.Each.{passed}
 use Rattle.jv_verify.proofs.goes.fits_at_cases.Goals as goal
 
 pub loop-case-preserved : goal.loop-case-preserved

@@ -1,6 +1,7 @@
 use Rattle.std.proofs.Common.{refl, sym, ◌∙◌}
 use Rattle.std.proofs.lemmas.Bool.{false≢true}
-use Rattle.jv_world.proofs.Choices.{not_false, not_true}
+use Rattle.jv_lists.proofs.Tests.{not_true}
+use Rattle.jv_world.proofs.Choices.{not_false}
 use Rattle.jv_world.proofs.NamesFound.{names_twice, names_grown, names_distinct}
 use Rattle.jv_world.proofs.numbered.have_distinct_names.Goals as goal
 

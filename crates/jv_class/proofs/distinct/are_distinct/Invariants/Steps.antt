@@ -1,22 +1,17 @@
 -- Members one after the other, whose pairs of numbers are kept in a set.
-use Rattle.std.proofs.Common.{◌≡◌, ◌+◌, ◌<◌, ◌≤◌, ℕ, zero, suc, Bool, true, false, not, List, [], ◌∷◌, length, Some, refl, sym, ap, subst, ◌∙◌, arith, inl, inr, ◌⊎◌}
+use Rattle.std.proofs.Common.{◌≡◌, ◌+◌, ◌<◌, ◌≤◌, ℕ, Bool, true, false, not, List, length, Some, refl, sym, ap, ◌∙◌, arith, inl, inr, ◌⊎◌}
 use Rattle.std.specs.Prelude.{◌↔◌, IsTrue}
-use Rattle.std.specs.List.{slice_get, AllByRecursion}
+use Rattle.std.specs.List.{slice_get}
 use Rattle.std.specs.BTreeSet.{BTreeSet, IsEmpty}
 use Rattle.std.proofs.lemmas.Option.{slice_get_within}
+use Rattle.jv_lists.proofs.Places.{each_at}
 use Rattle.jv_read.proofs.Fronts.{some_is}
 use Rattle.jv_pool.specs.declared.item.PoolItem.{PoolItem}
 use Rattle.jv_class.specs.declared.class_file.Member.{Member}
 use Rattle.jv_class.specs.ClassTexts.{AreDistinct}
 use Rattle.jv_class.specs.Steps.MemberPairs.{number_at, pair_of, has, Adds, HasTexts, HaveTexts}
 use Rattle.jv_class.specs.Steps.TextNumbers.{AreNumbers}
-use Rattle.jv_class.proofs.ListLemmas.{no_some}
 use Rattle.jv_class.proofs.MemberPairs.{texts_same, numbers_same}
-
-all_get : {X : Type 0} (P : X → Type 0) (xs : List X) (i : ℕ) (x : X) → AllByRecursion P xs → slice_get xs i ≡ Some x → P x
-all_get P [] i x h e = absurd (no_some x e)
-all_get P (y ∷ ys) zero x h e = subst P (some_is y x e) h.0
-all_get P (y ∷ ys) (suc i) x h e = all_get P ys i x h.1 e
 
 pub record SoFar (numbers : List ℕ) (members : List Member) (count : ℕ) (pairs : BTreeSet (ℕ × ℕ)) : Type 0 where
   pub has_each : (j : ℕ) (a : Member) → j < count → slice_get members j ≡ Some a → IsTrue (has pairs (pair_of numbers a))
@@ -65,7 +60,7 @@ goes_on numbers members i old new m s at none adds = record {
 
 module _ (items : List PoolItem) (numbers : List ℕ) (members : List Member) (numbered : AreNumbers items numbers) (texts : HaveTexts items members) where
   texts_of : (j : ℕ) (a : Member) → slice_get members j ≡ Some a → HasTexts items a
-  texts_of j a e = all_get (HasTexts items) members j a texts.each e
+  texts_of j a e = each_at (HasTexts items) members j a texts.each e
 
   -- all of them were added
   pub all_differ : (i : ℕ) (pairs : BTreeSet (ℕ × ℕ)) → length members ≤ i → SoFar numbers members i pairs → IsTrue true ↔ AreDistinct items members
