@@ -91,7 +91,7 @@ fn collect_lent<'a, H: Host, B: Began>(
     host
 }
 
-/// The classes of the library under a root that an application meets. Only the files of those are read, each once.
+/// The classes of the library under a root that an application meets. Only the files of those are read.
 ///
 /// # Errors
 ///
