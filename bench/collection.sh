@@ -1,5 +1,5 @@
 #!/usr/bin/env bash
-# Times collection: the program `measure_collect` over libraries of 5,000 classes that bench/make_library.py writes, of
+# Times collection: the program `measure` over libraries of 5,000 classes that bench/make_library.py writes, of
 # which an application reaches 10, 100, 1,000 and all in one round, or 100, 300 and 1,000 in as many rounds, each class
 # being the superclass of the one before. Prints what is collected, the seconds of the processor that one collection
 # takes (best of three runs), the peak memory, and, where strace is installed, how many files of the library are opened.
@@ -10,8 +10,8 @@ set -eu
 top=$(cd "$(dirname "$0")/.." && pwd)
 work=$(mktemp -d)
 trap 'rm -rf "$work"' EXIT
-[ -n "${1:-}" ] || "$top/bench/build.sh" measure_collect sample
-python3 - "$top" "$work" "${1:-$top/crates/measure_collect/out/measure_collect}" <<'PY'
+[ -n "${1:-}" ] || "$top/bench/build.sh" measure sample
+python3 - "$top" "$work" "${1:-$top/crates/measure/out/measure}" <<'PY'
 import os, shutil, subprocess, sys
 
 top, work, program = sys.argv[1:4]

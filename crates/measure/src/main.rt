@@ -14,6 +14,9 @@
 //!   that a reference is wrong, with the offset. Then how many classes there are of both, how many codes there
 //!   were in all rounds, how many of them were verified, and how many instructions these had. Its status is 0
 //!   only where all were verified.
+//! - `collect` ROUNDS APPLICATION LIBRARY: reads the class files below the folder APPLICATION, and so many times it
+//!   collects what they can meet of the classes below the folder LIBRARY. Each time it prints how many classes, fields
+//!   and methods are collected, and the greatest dimension. Just the files of the collected classes are read.
 //! - `world` FAMILY CLASSES TESTS: builds a `chain`, a `fan` or a `lattice` of so many classes, and makes so
 //!   many subtype tests; prints how many proper supertypes the classes have together and how many tests
 //!   answered yes.
@@ -29,6 +32,7 @@
 
 mod classes;
 mod codes;
+mod collecting;
 mod files;
 mod graph;
 mod members;
@@ -43,6 +47,7 @@ mod worlds;
 
 use anyhow::{Context, Result, bail};
 use classes::measure_classes;
+use collecting::measure_collection;
 use graph::measure_close;
 use members::measure_members;
 use methods::measure_methods;
@@ -71,6 +76,7 @@ fn sample(rt: &HostRuntime) -> Result<()> {
     measure_classes(rt, "again", 2, &["."])?;
     measure_classes(rt, "decode", 1, &["."])?;
     measure_methods(rt, 2, "verify/program", "verify/library")?;
+    measure_collection(rt, 1, "collect/application", "collect/library")?;
     measure_world(rt, "lattice", 30, 10)?;
     measure_members(rt, 5, 10, 3, 1)?;
     measure_close(rt, 1000)?;
@@ -92,6 +98,7 @@ fn work(rt: &HostRuntime, words: &[String]) -> Result<()> {
             measure_classes(rt, name, number(words, 1)?, &paths)
         }
         "verify" => measure_methods(rt, number(words, 1)?, word(words, 2)?, word(words, 3)?),
+        "collect" => measure_collection(rt, number(words, 1)?, word(words, 2)?, word(words, 3)?),
         "world" => measure_world(rt, word(words, 1)?, number(words, 2)?, number(words, 3)?),
         "members" => measure_members(
             rt,
