@@ -1,14 +1,12 @@
 -- Code that throws what is known, whose branch lands.
-use Rattle.std.proofs.Common.{◌≡◌, ℕ, suc, ◌+◌, List, [], ◌∷◌, ◌++◌, length, map, Some, refl, sym, ap, subst, ◌∙◌, append_assoc, length-append, arith}
+use Rattle.std.proofs.Common.{◌≡◌, ℕ, suc, ◌+◌, List, [], ◌∷◌, ◌++◌, length, Some, refl, ap, ◌∙◌, length-append, arith}
 use Rattle.std.specs.Prelude.{slice_get, slice_set}
 use Rattle.jv_table.specs.declared.ops.TheConstants.{IFNULL, ATHROW}
 use Rattle.jv_types.specs.declared.desc.RefType as refs
 use Rattle.jv_types.specs.declared.frames.VType.{VType}
-use Rattle.jv_types.specs.declared.frames.Frame.{Frame}
-use Rattle.jv_frames.specs.Types.{frame_of}
 use Rattle.av_asm.specs.declared.step.Step.{Step}
 use Rattle.av_asm.specs.declared.step.Step.TheVariants.{Put, Open, Landed}
-use Rattle.av_asm.specs.Built.{Built, with_landing, IsBranch, IsOpen}
+use Rattle.av_asm.specs.Built.{Built, with_landing, IsBranch}
 use Rattle.av_conditions.specs.CoreClasses.{throwable_name}
 use Rattle.av_standin_of.specs.Codes.{Row, plain, get_known, checkcast}
 use Rattle.av_standin_of.specs.Templates.{throws}

@@ -1,6 +1,7 @@
 //! Parts of the code of a stand-in's methods, as they are put into a builder.
 #![tactic(auto, using(crate::proofs::Adding::with_both))]
 
+mod constructors;
 mod frames;
 mod insns;
 mod methods;
@@ -9,6 +10,7 @@ mod putting;
 mod values;
 mod which;
 
+pub use constructors::{extra_code, makes_fresh, method_code, plain_code};
 pub use frames::frame_of;
 pub use insns::{
     aload, call_extra, checkcast, extra_desc, get_known, holder, library_name, plain, put_fresh,

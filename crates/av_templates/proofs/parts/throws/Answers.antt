@@ -1,4 +1,3 @@
-use Rattle.std.proofs.Common.{rules}
 use Rattle.jv_table.specs.declared.ops.TheConstants.{IFNULL}
 use Rattle.av_templates.proofs.Landing.{branches, both_put, lands}
 use Rattle.av_templates.proofs.parts.throws.Goals as goal
