@@ -21,7 +21,7 @@ use Rattle.av_sketches.specs.declared.sketch.SketchedMethod.{SketchedMethod}
 use Rattle.av_sketches.specs.declared.sketch.Recipe.TheVariants.{Collected}
 use Rattle.av_sketches.specs.Sketches.{code_by, made_method}
 use Rattle.av_sorted.specs.Orders.{AreApart, sketched_key}
-use Rattle.av_sketching.specs.Members.{HasDistinctMembers}
+use Rattle.av_sketches.specs.Conditions.{HasDistinctMembers}
 use Rattle.av_sketching.specs.Steps.{kept_shape, kept_sketch, extra_sketch, extras, all_sketched}
 
 -- ---- lists

@@ -1,7 +1,7 @@
 ghost use Rattle.std.specs.Prelude.{◌≡◌, ℕ, IfOk, map};
 ghost use Rattle.av_standin_of.specs.Classes.{is_interface, kept_field, kept_flags, IsOfCollected};
 ghost use Rattle.av_sketches.specs.Sketches.{made_class};
-ghost use Rattle.av_sketching.specs.Members.{HasDistinctMembers};
+ghost use Rattle.av_sketches.specs.Conditions.{HasDistinctMembers};
 ghost use Rattle.av_sketching.specs.Steps.{all_sketched, extra_sketch, kept_sketch};
 
 use av_sketches::{Recipe, Sketch, SketchedMethod};
