@@ -1,3 +1,4 @@
+pub mod Alone
 pub mod Dims
 pub mod Handling
 pub mod Joined

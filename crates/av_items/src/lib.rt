@@ -9,4 +9,4 @@ mod objects;
 mod recipes;
 mod rows;
 
-pub use recipes::{put_item, put_recipe};
+pub use recipes::{build_recipe, put_item, put_recipe};

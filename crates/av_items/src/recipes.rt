@@ -1,9 +1,9 @@
 ghost use Rattle.std.specs.Prelude.{◌≡◌, ◌≤◌, [], Some, IfOk};
-ghost use Rattle.av_standin_of.specs.Codes.{Code as CodeValue};
+ghost use Rattle.av_standin_of.specs.Codes.{Code as CodeValue, built_of};
 ghost use Rattle.av_standin_of.specs.Templates.{words_in};
 ghost use Rattle.av_sketches.specs.Sketches.{item_code, recipe_code};
 ghost use Rattle.av_sketches.specs.Conditions.{HasFewWords};
-ghost use Rattle.av_items.specs.Coding.{with_code};
+ghost use Rattle.av_items.specs.Coding.{IsBegun, with_code};
 
 use crate::arrays::{arrays_item, prim_arrays_item};
 use crate::calls::{call_item, finalize_item};
@@ -57,4 +57,21 @@ pub fn put_recipe(
         Recipe::Template => plain_code(builder, class, shape),
         Recipe::Item(item) => put_item(builder, class.allocator(), dims, item),
     }
+}
+
+/// Puts the code that a recipe gives a method of a class, if it gives one, into a builder in which nothing was put, so
+/// that the builder holds just that code where the method's arguments take as many words as the code says. Arrays have up
+/// to so many dimensions. Where memory is wanting the builder is given up.
+pub fn build_recipe(
+    builder: CodeBuilder,
+    dims: u8,
+    class: &Name,
+    shape: &MethodShape,
+    recipe: &Recipe,
+) -> Result<CodeBuilder, AllocError>
+    requires begun { IsBegun builder }
+    requires few { HasFewWords shape.now recipe.now }
+    ensures { (code : CodeValue) → recipe_code dims class.now shape.now recipe.now ≡ Some code → builder.words ≡ code.words → IfOk result (λ made. made ≡ built_of builder.method code) }
+{
+    put_recipe(builder, dims, class, shape, recipe)
 }
