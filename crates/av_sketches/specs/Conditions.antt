@@ -161,6 +161,8 @@ pub record HasFreeNames (w : List Shape) : Type 0 where
 -- beside this.
 pub record CanStandIn (w : List Shape) (dims : ℕ) : Type 0 where
   pub few_dims : dims ≤ 255
+  -- at most 20,000 classes of the application, and 8,000 collected ones
+  pub few_classes : length w ≤ 28000
   pub formed : (class : Shape) → Contains w class → HasClassForm class
   pub collected : (class : Shape) → IsCollectedClass w class → LeavesRoom w class
   -- as many as the class of any object names (JVMS 4.1)
