@@ -1,5 +1,5 @@
 -- What a world must have so that its stand-in can be made, and recipes and codes so that they can.
-use Rattle.std.specs.Prelude.{◌≡◌, ◌<◌, ◌≤◌, ◌^◌, ⊤, ℕ, true, false, List, length, map, Option, Some, IfSome, Contains}
+use Rattle.std.specs.Prelude.{◌≡◌, ◌<◌, ◌≤◌, ◌^◌, ⊤, ℕ, true, false, List, length, map, Option, Some, IfSome, slice_get, Contains}
 use Rattle.jv_types.specs.declared.ids.MethodId.{MethodId}
 use Rattle.jv_types.specs.declared.shapes.FieldShape.{FieldShape}
 use Rattle.jv_types.specs.declared.shapes.MethodShape.{MethodShape}
@@ -139,11 +139,17 @@ pub record HasClassForm (class : Shape) : Type 0 where
   pub fields : (field : FieldShape) → Contains class.fields field → HasFieldForm field
   pub methods : (method : MethodShape) → Contains class.methods method → HasMethodForm method
 
+-- each method stands once
+abbrev pub HasMethodsOnce : Shape → Type 0
+HasMethodsOnce class =
+    (i j : ℕ) (method : MethodShape) → slice_get class.methods i ≡ Some method → slice_get class.methods j ≡ Some method → i ≡ j
+
 -- A collected class leaves room for what the stand-in adds: its name is so short that a pool has room for those that are
 -- made of it, its members are distinct, its constructors make instances, and its supertypes are of the library too.
 pub record LeavesRoom (w : List Shape) (class : Shape) : Type 0 where
   pub short_name : length class.name ≤ 60000
   pub distinct : HasDistinctMembers class
+  pub once : HasMethodsOnce class
   pub instances : (method : MethodShape) → Contains class.methods method → MakesInstances method
   pub supers : (other : Shape) → Contains w other → NamesSuper class other.name → other.application ≡ false
 
