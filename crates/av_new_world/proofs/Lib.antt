@@ -1,0 +1,7 @@
+pub mod Kept
+pub mod Elements
+pub mod Places
+pub mod Numbered
+pub mod Members
+pub mod Supers
+pub mod Ranks
