@@ -5,3 +5,4 @@ pub mod Numbered
 pub mod Members
 pub mod Supers
 pub mod Ranks
+pub mod There

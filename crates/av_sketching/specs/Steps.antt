@@ -27,3 +27,6 @@ extras class = if is_interface class then [] else extra_sketch class ∷ []
 
 abbrev pub all_sketched : Shape → List SketchedMethod
 all_sketched class = map (kept_sketch class) class.methods ++ extras class
+
+abbrev pub sketched_shape : SketchedMethod → MethodShape
+sketched_shape method = method.shape

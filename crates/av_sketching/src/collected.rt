@@ -18,7 +18,7 @@ fn is_interface(class: &Shape) -> bool
 }
 
 /// The flags that the stand-in of a class keeps: public, final, interface and abstract, and a class has SUPER.
-fn kept_flags(class: &Shape) -> Access
+pub(crate) fn kept_flags(class: &Shape) -> Access
     ensures { result ≡ kept_flags class.now }
 {
     if is_interface(class) {
@@ -37,7 +37,7 @@ fn kept_field(field: &FieldShape) -> Result<FieldShape, AllocError>
 }
 
 /// The fields of a class, with the flags that are kept. Only memory can be wanting.
-fn kept_fields(class: &Shape) -> Result<Vec<FieldShape>, AllocError>
+pub(crate) fn kept_fields(class: &Shape) -> Result<Vec<FieldShape>, AllocError>
     ensures { IfOk result (λ made. made.items ≡ map kept_field class.now.fields) }
 {
     let mut kept = Vec::new(class.name.allocator());
@@ -48,7 +48,7 @@ fn kept_fields(class: &Shape) -> Result<Vec<FieldShape>, AllocError>
 }
 
 /// The superclass, if there is one. Only memory can be wanting.
-fn parent_of(class: &Shape) -> Result<Option<Name>, AllocError>
+pub(crate) fn parent_of(class: &Shape) -> Result<Option<Name>, AllocError>
     ensures { IfOk result (λ made. made ≡ class.now.parent) }
 {
     match &class.parent {
@@ -111,7 +111,7 @@ fn kept_methods(class: &Shape) -> Result<Vec<SketchedMethod>, AllocError>
 
 /// The sketches of the methods of a collected class: those that it declares, and the extra constructor. Only memory can be
 /// wanting.
-fn all_sketched(class: &Shape) -> Result<Vec<SketchedMethod>, AllocError>
+pub(crate) fn all_sketched(class: &Shape) -> Result<Vec<SketchedMethod>, AllocError>
     ensures { IfOk result (λ made. made.items ≡ all_sketched class.now) }
 {
     let mut all = kept_methods(class)?;
