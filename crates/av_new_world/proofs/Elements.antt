@@ -1,7 +1,6 @@
 -- The classes of a stand-in's world: those that were there, and the new ones.
-use Rattle.std.proofs.Common.{◌≡◌, ℕ, ◌<◌, ◌⊎◌, inl, inr, Bool, true, false, List, ◌∷◌, [], ◌++◌, length, map, Contains, Some, sym, subst, ap, ◌∙◌, refl, arith}
-use Rattle.std.specs.Prelude.{not, ◌||◌}
-use Rattle.std.specs.List.{filter, list_any, slice_get}
+use Rattle.std.proofs.Common.{◌≡◌, ℕ, ◌⊎◌, inl, inr, Bool, true, false, List, ◌∷◌, [], map, Contains, sym, subst, ◌∙◌, arith}
+use Rattle.std.specs.List.{filter, list_any}
 use Rattle.std.specs.Str.{bytes_eq}
 use Rattle.std.proofs.lemmas.List.Elements.{Contains-append_left, Contains-append_right, Contains-append_cases}
 use Rattle.std.proofs.lemmas.Slice.Eq.{bytes_eq-Decides}
@@ -57,9 +56,9 @@ pub from_world : (w : List Shape) (classes : List MadeClass) (x : Shape) → Con
 from_world w classes x has = elim (Contains-append_cases (map kept_class w) (map new_class (filter (is_new w) classes)) x has) [
   | inl old ↦ let from = mapped_from kept_class w x old in inl (record { class = from.0; there = from.1; is = from.2 })
   | inr added ↦
-    let from = mapped_from new_class (filter (is_new w) classes) x added in
-    let kept = of_kept (is_new w) classes from.0 from.1 in
-    inr (record { made = from.0; there = kept.0; new = kept.1; is = from.2 })
+      let from = mapped_from new_class (filter (is_new w) classes) x added in
+      let kept = of_kept (is_new w) classes from.0 from.1 in
+      inr (record { made = from.0; there = kept.0; new = kept.1; is = from.2 })
 ]
 
 pub keeps : (w : List Shape) (classes : List MadeClass) (class : Shape) → Contains w class → Contains (standin_world w classes) (kept_class class)

@@ -1,9 +1,9 @@
 -- How many members the classes of a stand-in's world have.
-use Rattle.std.proofs.Common.{◌≡◌, ℕ, zero, suc, ◌<◌, ◌≤◌, ◌^◌, ◌+◌, ◌⊎◌, inl, inr, Bool, true, false, List, ◌∷◌, [], ◌++◌, length, map, Contains, Some, sym, subst, ap, ◌∙◌, refl, arith, length-append}
+use Rattle.std.proofs.Common.{◌≡◌, ℕ, ◌<◌, ◌≤◌, ◌^◌, ◌+◌, inl, inr, Bool, true, false, List, ◌∷◌, [], ◌++◌, length, map, Contains, Some, sym, subst, ◌∙◌, refl, arith, length-append}
 use Rattle.std.specs.Prelude.{if◌then◌else◌, bit_and}
 use Rattle.std.specs.List.{slice_get}
 use Rattle.std.proofs.lemmas.Bool.Decides.{Decides-eqb}
-use Rattle.std.proofs.lemmas.List.{length-map, map-append}
+use Rattle.std.proofs.lemmas.List.{length-map}
 use Rattle.std.proofs.lemmas.List.Elements.{Contains-append_cases}
 use Rattle.jv_types.specs.declared.shapes.FieldShape.{FieldShape}
 use Rattle.jv_types.specs.declared.shapes.MethodShape.{MethodShape}
@@ -17,14 +17,14 @@ use Rattle.jv_once.specs.Once.{StandOnce}
 use Rattle.jv_once.proofs.Parts.{no_more, once_joined}
 use Rattle.jv_once.proofs.Keys.{once_placed}
 use Rattle.av_standin_of.specs.Names.{extra_desc, method_key}
-use Rattle.av_standin_of.specs.Classes.{MadeClass, MadeMethod, made_key, kept_method, extra_method, kept_field, is_interface, IsCollectedClass, IsOfCollected, IsMethodOf, IsStandinClass, library_class}
+use Rattle.av_standin_of.specs.Classes.{MadeClass, made_key, kept_method, extra_method, kept_field, is_interface, IsOfCollected, IsStandinClass}
 use Rattle.av_standin_of.specs.Classes.{IsMethodOf as methods}
 use Rattle.av_standin_of.specs.Classes.{IsStandinClass as kinds}
-use Rattle.av_standin_of.specs.Worlds.{kept_class, in_place, new_class, is_new, shape_of, standin_world}
+use Rattle.av_standin_of.specs.Worlds.{in_place, is_new, shape_of, standin_world}
 use Rattle.av_sketches.specs.Conditions.{HasDistinctMembers, HasMethodsOnce}
 use Rattle.av_new_world.specs.Conditions.{MayMakeWorld}
 use Rattle.av_new_world.proofs.Kept.{kept_by}
-use Rattle.av_new_world.proofs.Elements.{WasThere, IsAdded, from_world, new_name}
+use Rattle.av_new_world.proofs.Elements.{from_world, new_name}
 
 -- ---- a collected class that is no interface
 
@@ -42,17 +42,17 @@ module _ (class : Shape) (distinct : HasDistinctMembers class) (once : HasMethod
   all_once : StandOnce keys
   all_once = once_joined (map method_key class.methods) ((init_name, method_text extra_desc) ∷ []) keys_once ((λ has. none_there (init_name, method_text extra_desc) has), tt)
       (λ key here there. let from = mapped_from method_key class.methods key here in
-        distinct.none_extra from.0 from.1 (from.2 ∙ sym (only_key (init_name, method_text extra_desc) key there)))
+      distinct.none_extra from.0 from.1 (from.2 ∙ sym (only_key (init_name, method_text extra_desc) key there)))
 
   made_has : (made : MadeClass) → (IsInterface class → ⊥) → IsOfCollected class made → (key : List ℕ × List ℕ) → Contains keys key → Contains (map made_key made.methods) key
   made_has made no_interface of key has = elim (Contains-append_cases (map method_key class.methods) ((init_name, method_text extra_desc) ∷ []) key has) [
     | inl here ↦
-      let from = mapped_from method_key class.methods key here in
-      subst (λ (k : List ℕ × List ℕ). Contains (map made_key made.methods) k) from.2
-      (mapped_to made_key made.methods (kept_method class from.0) (of.methods.all (kept_method class from.0) (methods.collected from.0 from.1 refl)))
+        let from = mapped_from method_key class.methods key here in
+        subst (λ (k : List ℕ × List ℕ). Contains (map made_key made.methods) k) from.2
+        (mapped_to made_key made.methods (kept_method class from.0) (of.methods.all (kept_method class from.0) (methods.collected from.0 from.1 refl)))
     | inr there ↦
-      subst (λ (k : List ℕ × List ℕ). Contains (map made_key made.methods) k) (only_key (init_name, method_text extra_desc) key there)
-      (mapped_to made_key made.methods (extra_method class.name class.parent) (of.methods.all (extra_method class.name class.parent) (methods.extra no_interface refl)))
+        subst (λ (k : List ℕ × List ℕ). Contains (map made_key made.methods) k) (only_key (init_name, method_text extra_desc) key there)
+        (mapped_to made_key made.methods (extra_method class.name class.parent) (of.methods.all (extra_method class.name class.parent) (methods.extra no_interface refl)))
   ]
 
   pub one_more : (made : MadeClass) → (IsInterface class → ⊥) → IsOfCollected class made → length class.methods + 1 ≤ length made.methods
@@ -78,9 +78,13 @@ module _ (w : List Shape) (dims : ℕ) (classes : List MadeClass) (world : IsWor
           let each = may.each class (has, of_library) in
           let room = may.can.collected class (has, of_library) in
           let no_interface : (IsInterface class → ⊥) = λ flag. unlike (sym ((Decides-eqb (bit_and class.flags.0 512) 512).1 flag) ∙ is) in
-          omega (arith, may.few each.0 each.1, one_more class room.distinct room.once each.0 no_interface each.2,
+          omega (
+            arith,
+            may.few each.0 each.1,
+            one_more class room.distinct room.once each.0 no_interface each.2,
             length-map class.methods (λ (declared : MethodShape). shape_of (kept_method class declared)),
-            length-append kept (shape_of (extra_method class.name class.parent) ∷ []))
+            length-append kept (shape_of (extra_method class.name class.parent) ∷ []),
+          )
 
   few_made : (made : MadeClass) → length made.methods ≤ 65535 → length (map shape_of made.methods) < 2 ^ 16
   few_made made few = omega (arith, few, length-map made.methods shape_of)
@@ -95,18 +99,18 @@ module _ (w : List Shape) (dims : ℕ) (classes : List MadeClass) (world : IsWor
   pub few_methods : (x : Shape) → Contains (standin_world w classes) x → length x.methods < 2 ^ 16
   few_methods x has = elim (from_world w classes x has) [
     | inl old ↦
-      subst (λ (s : Shape). length s.methods < 2 ^ 16) old.is
-      (kept_by (λ (s : Shape). length s.methods < 2 ^ 16) old.class (λ own. world.numbered.methods old.class old.there) (placed_methods old.class old.there))
+        subst (λ (s : Shape). length s.methods < 2 ^ 16) old.is
+        (kept_by (λ (s : Shape). length s.methods < 2 ^ 16) old.class (λ own. world.numbered.methods old.class old.there) (placed_methods old.class old.there))
     | inr added ↦ subst (λ (s : Shape). length s.methods < 2 ^ 16) added.is (few_made added.made (may.few added.made added.there))
   ]
 
   pub few_fields : (x : Shape) → Contains (standin_world w classes) x → length x.fields < 2 ^ 16
   few_fields x has = elim (from_world w classes x has) [
     | inl old ↦
-      subst (λ (s : Shape). length s.fields < 2 ^ 16) old.is
-      (kept_by (λ (s : Shape). length s.fields < 2 ^ 16) old.class (λ own. world.numbered.fields old.class old.there)
-      (λ of_library. omega (arith, world.numbered.fields old.class old.there, length-map old.class.fields kept_field)))
+        subst (λ (s : Shape). length s.fields < 2 ^ 16) old.is
+        (kept_by (λ (s : Shape). length s.fields < 2 ^ 16) old.class (λ own. world.numbered.fields old.class old.there)
+        (λ of_library. omega (arith, world.numbered.fields old.class old.there, length-map old.class.fields kept_field)))
     | inr added ↦
-      subst (λ (s : Shape). length s.fields < 2 ^ 16) added.is
-      (omega (arith, new_fields added.made added.new (may.are.only added.made added.there)))
+        subst (λ (s : Shape). length s.fields < 2 ^ 16) added.is
+        (omega (arith, new_fields added.made added.new (may.are.only added.made added.there)))
   ]

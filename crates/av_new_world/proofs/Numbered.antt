@@ -1,23 +1,21 @@
 -- Names of a stand-in's world are different, and what has to be numbered can be.
-use Rattle.std.proofs.Common.{◌≡◌, ℕ, zero, suc, ◌<◌, ◌≤◌, ◌^◌, ◌+◌, ◌⊎◌, inl, inr, Bool, true, false, List, ◌∷◌, [], ◌++◌, length, map, Contains, Some, sym, subst, ap, ◌∙◌, refl, arith, length-append}
+use Rattle.std.proofs.Common.{◌≡◌, ℕ, ◌<◌, ◌≤◌, ◌^◌, ◌+◌, true, List, ◌∷◌, [], ◌++◌, length, map, Contains, sym, subst, ap, ◌∙◌, refl, arith, length-append}
 use Rattle.std.proofs.lemmas.List.{length-map, map-append}
-use Rattle.std.specs.List.{filter, slice_get}
+use Rattle.std.specs.List.{filter}
 use Rattle.std.proofs.lemmas.Cmp.{tied_itself}
 use Rattle.std.specs.Cmp.Lexicographic.{nat_list_cmp_total}
 use Rattle.std.specs.declared.cmp.Ordering.TheVariants.{Less, Equal}
-use Rattle.std.proofs.lemmas.List.Elements.{Contains-append_left, Contains-append_right, Contains-append_cases}
-use Rattle.jv_types.specs.declared.shapes.MethodShape.{MethodShape}
+use Rattle.std.proofs.lemmas.List.Elements.{Contains-append_left, Contains-append_right}
 use Rattle.jv_types.specs.declared.shapes.Shape.{Shape}
-use Rattle.jv_world.specs.Worlds.{AreNumbered, HaveDistinctNames, IsInterface, IsNamed, IsWorld}
+use Rattle.jv_world.specs.Worlds.{HaveDistinctNames, IsWorld}
 use Rattle.jv_resolve.specs.Packages.{package_of}
-use Rattle.jv_lists.proofs.Among.{mapped_from, mapped_to, none_there, first_or_later, is_first, is_later}
+use Rattle.jv_lists.proofs.Among.{mapped_from, mapped_to, is_first, is_later}
 use Rattle.jv_lists.proofs.Places.{among_at}
 use Rattle.jv_once.specs.Once.{StandOnce}
 use Rattle.jv_once.proofs.Parts.{no_more, once_joined}
 use Rattle.jv_once.proofs.Keys.{once_rising, one_place, once_placed, of_kept, once_kept}
 use Rattle.av_conditions.specs.StandIn.{library_name, any_name}
-use Rattle.av_standin_of.specs.Lists.{AreJust}
-use Rattle.av_standin_of.specs.Names.{part_name, file_name, name_order, method_key}
+use Rattle.av_standin_of.specs.Names.{part_name, file_name, name_order}
 use Rattle.av_standin_of.specs.Classes.{MadeClass, IsStandinClass}
 use Rattle.av_standin_of.specs.Classes.{IsStandinClass as kinds}
 use Rattle.av_standin_of.specs.Worlds.{kept_class, new_class, is_new, standin_world}
@@ -44,7 +42,7 @@ once_under : {X K L : Type 0} (key : X → K) (more : K → L) (xs : List X) →
 once_under key more [] once = tt
 once_under {X} {K} {L} key more (x ∷ xs) once = (
   λ has. let from = mapped_from key xs (key x) has in
-    once.0 (subst (λ (l : L). Contains (map (λ (y : X). more (key y)) xs) l) (ap more from.2) (mapped_to (λ (y : X). more (key y)) xs from.0 from.1)),
+      once.0 (subst (λ (l : L). Contains (map (λ (y : X). more (key y)) xs) l) (ap more from.2) (mapped_to (λ (y : X). more (key y)) xs from.0 from.1)),
   once_under key more xs once.1,
 )
 
@@ -102,15 +100,26 @@ module _ (w : List Shape) (dims : ℕ) (classes : List MadeClass) (world : IsWor
   few_new : length (filter (is_new w) classes) ≤ 1 + (length w + length w)
   few_new =
       let inside : (name : List ℕ) → Contains (map made_name (filter (is_new w) classes)) name → Contains new_names name =
-          (λ name has. let from = mapped_from made_name (filter (is_new w) classes) name has in
-            let kept = of_kept (is_new w) classes from.0 from.1 in
-            subst (λ (n : List ℕ). Contains new_names n) from.2 (kind_named from.0 kept.1 (may.are.only from.0 kept.0))) in
+      (λ name has. let from = mapped_from made_name (filter (is_new w) classes) name has in
+      let kept = of_kept (is_new w) classes from.0 from.1 in
+      subst (λ (n : List ℕ). Contains new_names n) from.2 (kind_named from.0 kept.1 (may.are.only from.0 kept.0))) in
       let fewer = no_more (map made_name (filter (is_new w) classes)) new_names new_once inside in
-      omega (arith, fewer, length-map (filter (is_new w) classes) made_name,
+      omega (
+        arith,
+        fewer,
+        length-map (filter (is_new w) classes) made_name,
         length-append (map (λ (class : Shape). any_name class.name) w) (map (λ (class : Shape). part_name (package_of class.name)) w),
-        length-map w (λ (class : Shape). any_name class.name), length-map w (λ (class : Shape). part_name (package_of class.name)))
+        length-map w (λ (class : Shape). any_name class.name),
+        length-map w (λ (class : Shape). part_name (package_of class.name)),
+      )
 
   pub count : length (standin_world w classes) < 2 ^ 32
   count =
-      omega (arith, few_new, may.can.few_classes, length-append (map kept_class w) (map new_class (filter (is_new w) classes)),
-        length-map w kept_class, length-map (filter (is_new w) classes) new_class)
+      omega (
+        arith,
+        few_new,
+        may.can.few_classes,
+        length-append (map kept_class w) (map new_class (filter (is_new w) classes)),
+        length-map w kept_class,
+        length-map (filter (is_new w) classes) new_class,
+      )

@@ -1,16 +1,14 @@
 -- Classes of a stand-in's world by their numbers.
-use Rattle.std.proofs.Common.{◌≡◌, ℕ, zero, suc, ◌<◌, ◌≤◌, ◌⊎◌, inl, inr, Bool, true, false, List, ◌∷◌, [], ◌++◌, length, map, Contains, Option, None, Some, sym, subst, ap, ◌∙◌, refl, arith, length-append, option_map}
+use Rattle.std.proofs.Common.{◌≡◌, ℕ, zero, suc, ◌<◌, ◌≤◌, List, ◌∷◌, [], ◌++◌, length, map, Contains, Some, sym, ap, ◌∙◌, refl, arith, option_map}
 use Rattle.std.specs.List.{filter, slice_get}
 use Rattle.std.proofs.lemmas.Option.{slice_get-map}
 use Rattle.std.proofs.lemmas.List.{length-map}
 use Rattle.jv_types.specs.declared.shapes.Shape.{Shape}
 use Rattle.jv_world.specs.Worlds.{IsNamed}
-use Rattle.jv_lists.proofs.Among.{none_there}
-use Rattle.jv_lists.proofs.Places.{among_at, get_front, element_at, placed, slice_get-front}
+use Rattle.jv_lists.proofs.Places.{among_at, get_front, element_at, placed}
 use Rattle.av_standin_of.specs.Classes.{MadeClass}
 use Rattle.av_standin_of.specs.Worlds.{kept_class, new_class, is_new, standin_world}
 use Rattle.av_new_world.proofs.Kept.{name_stays}
-use Rattle.av_new_world.proofs.Elements.{IsAdded, from_world}
 
 some_is : {X : Type 0} (x y : X) → Some x ≡ Some y → x ≡ y
 some_is x y e = cc

@@ -1,6 +1,6 @@
 -- Each link of a stand-in's world leads to a class of lower rank: those that were there keep theirs, and new classes stand
 -- above them all.
-use Rattle.std.proofs.Common.{◌≡◌, ℕ, zero, suc, ◌<◌, ◌≤◌, ◌+◌, ◌⊎◌, inl, inr, Bool, true, false, List, ◌∷◌, [], ◌++◌, length, map, Contains, Some, sym, subst, ap, ◌∙◌, refl, arith, length-append}
+use Rattle.std.proofs.Common.{◌≡◌, ℕ, ◌<◌, ◌≤◌, ◌⊎◌, inl, inr, Bool, true, false, List, length, map, Contains, Some, sym, subst, ap, ◌∙◌, refl, arith, length-append}
 use Rattle.std.specs.Prelude.{nat_lt}
 use Rattle.std.specs.List.{filter, slice_get}
 use Rattle.std.proofs.lemmas.Bool.{ltb-true, ltb-false, lt-ltb, le-ltb}
@@ -49,16 +49,16 @@ module _ (w : List Shape) (dims : ℕ) (classes : List MadeClass) (world : IsWor
   super_low x name d has names (other, at, named) = elim (low_or_high d) [
     | inl low ↦ low
     | inr high ↦
-      let from = mapped_from new_class (filter (is_new w) classes) other (new_at w classes d other high at) in
-      let new = of_kept (is_new w) classes from.0 from.1 in
-      let same : from.0.name ≡ name = ap (λ (s : Shape). s.name) from.2 ∙ named in
-      absurd (elim (from_world w classes x has) [
-        | inl old ↦
-          names_no_new w dims classes world may old.class old.there name (supers_stay old.class name (subst (λ (s : Shape). NamesSuper s name) (sym old.is) names)) from.0 new.1 same
-        | inr added ↦
-          let there = super_there w dims classes world may added.made added.new (may.are.only added.made added.there) name (subst (λ (s : Shape). NamesSuper s name) (sym added.is) names) in
-          new_nowhere w from.0 new.1 there.0 (subst (λ (n : List ℕ). IsNamed w there.0 n) (sym same) there.1)
-      ])
+        let from = mapped_from new_class (filter (is_new w) classes) other (new_at w classes d other high at) in
+        let new = of_kept (is_new w) classes from.0 from.1 in
+        let same : from.0.name ≡ name = ap (λ (s : Shape). s.name) from.2 ∙ named in
+        absurd (elim (from_world w classes x has) [
+          | inl old ↦
+              names_no_new w dims classes world may old.class old.there name (supers_stay old.class name (subst (λ (s : Shape). NamesSuper s name) (sym old.is) names)) from.0 new.1 same
+          | inr added ↦
+              let there = super_there w dims classes world may added.made added.new (may.are.only added.made added.there) name (subst (λ (s : Shape). NamesSuper s name) (sym added.is) names) in
+              new_nowhere w from.0 new.1 there.0 (subst (λ (n : List ℕ). IsNamed w there.0 n) (sym same) there.1)
+        ])
   ]
 
   -- a link from a class that was there was one
@@ -74,9 +74,9 @@ module _ (w : List Shape) (dims : ℕ) (classes : List MadeClass) (world : IsWor
       let named' = old_named w classes d name low named in
       elim (low_or_high c) [
         | inl low_c ↦
-          let old = old_at w classes c x low_c at in
-          let below = world.falls c d (link_was c d old.0 old.1 name (subst (λ (s : Shape). NamesSuper s name) (sym old.2) names) named') in
-          omega (arith, below, low_rank c low_c, low_rank d low)
+            let old = old_at w classes c x low_c at in
+            let below = world.falls c d (link_was c d old.0 old.1 name (subst (λ (s : Shape). NamesSuper s name) (sym old.2) names) named') in
+            omega (arith, below, low_rank c low_c, low_rank d low)
         | inr high ↦ omega (arith, world.bound d low, low_rank d low, high_rank c high)
       ]
 

@@ -1,21 +1,20 @@
 -- Supertypes of the classes of a stand-in's world.
-use Rattle.std.proofs.Common.{◌≡◌, ℕ, zero, suc, ◌<◌, ◌≤◌, ◌^◌, ◌+◌, ◌⊎◌, inl, inr, Bool, true, false, List, ◌∷◌, [], ◌++◌, length, map, Contains, Option, None, Some, sym, subst, ap, ◌∙◌, refl, arith}
+use Rattle.std.proofs.Common.{◌≡◌, ℕ, zero, suc, ◌<◌, inl, inr, true, false, List, [], Contains, Option, None, Some, sym, subst, ap, ◌∙◌, refl, arith}
 use Rattle.std.specs.Prelude.{MatchOption, bit_and}
 use Rattle.std.proofs.lemmas.Slice.Eq.{bytes_eq-Decides}
 use Rattle.jv_types.specs.declared.access.Access.{Access}
 use Rattle.std.specs.List.{slice_get}
 use Rattle.jv_types.specs.declared.shapes.Shape.{Shape}
-use Rattle.jv_world.specs.Worlds.{object_name, IsAbsent, IsFinal, IsInterface, IsNamed, IsWorld, NamesSuper, HasRightSupers, HasSuperclass}
+use Rattle.jv_world.specs.Worlds.{object_name, IsAbsent, IsFinal, IsInterface, IsNamed, IsWorld, NamesSuper, HasRightSupers}
 use Rattle.jv_lists.proofs.Among.{none_there}
 use Rattle.jv_lists.proofs.Places.{among_at, placed}
-use Rattle.av_conditions.specs.CoreClasses.{throwable_name, IsCoreClass}
-use Rattle.av_conditions.specs.StandIn.{library_name, any_name, IsLibraryInterface}
+use Rattle.av_conditions.specs.CoreClasses.{throwable_name}
 use Rattle.av_standin_of.specs.Classes.{MadeClass, IsStandinClass, final_class, library_class}
 use Rattle.av_standin_of.specs.Classes.{IsStandinClass as kinds}
 use Rattle.av_standin_of.specs.Worlds.{kept_class, new_class, is_new, standin_world}
 use Rattle.av_new_world.specs.Conditions.{MayMakeWorld}
 use Rattle.av_new_world.proofs.Kept.{name_stays, parent_stays, interfaces_stay, supers_stay, interface_was, interface_stays, final_was}
-use Rattle.av_new_world.proofs.Elements.{WasThere, IsAdded, from_world, new_name, new_nowhere}
+use Rattle.av_new_world.proofs.Elements.{WasThere, from_world, new_name, new_nowhere}
 use Rattle.av_new_world.proofs.Places.{named_old, number_of}
 
 some_is : {X : Type 0} (x y : X) → Some x ≡ Some y → x ≡ y
@@ -78,8 +77,8 @@ module _ (w : List Shape) (dims : ℕ) (classes : List MadeClass) (world : IsWor
             here = among_at w c class at;
             names = inl is;
             nowhere = λ d (o, at_d, named).
-              lower d o at_d (omega (arith, low, world.falls c d (inl (class, name, at, is, (o, at_d, named)))))
-              (λ is_object. (right object_class.0 object_class.1 (object_class.2 ∙ sym is_object ∙ named)).1 final);
+                lower d o at_d (omega (arith, low, world.falls c d (inl (class, name, at, is, (o, at_d, named)))))
+                (λ is_object. (right object_class.0 object_class.1 (object_class.2 ∙ sym is_object ∙ named)).1 final);
           })
 
   unlike : false ≡ true → ⊥
@@ -117,15 +116,15 @@ module _ (w : List Shape) (dims : ℕ) (classes : List MadeClass) (world : IsWor
   pub none_absent : (name : List ℕ) → IsAbsent (standin_world w classes) name → ⊥
   none_absent name absent = elim (from_world w classes absent.shape absent.here) [
     | inl old ↦
-      world.none_absent name (record {
-        shape = old.class;
-        here = old.there;
-        names = supers_stay old.class name (subst (λ (s : Shape). NamesSuper s name) (sym old.is) absent.names);
-        nowhere = λ c named. absent.nowhere c (named_old w classes c name named);
-      })
+        world.none_absent name (record {
+          shape = old.class;
+          here = old.there;
+          names = supers_stay old.class name (subst (λ (s : Shape). NamesSuper s name) (sym old.is) absent.names);
+          nowhere = λ c named. absent.nowhere c (named_old w classes c name named);
+        })
     | inr added ↦
-      let there = super_there added.made added.new (may.are.only added.made added.there) name (subst (λ (s : Shape). NamesSuper s name) (sym added.is) absent.names) in
-      absent.nowhere there.0 (named_old w classes there.0 name there.1)
+        let there = super_there added.made added.new (may.are.only added.made added.there) name (subst (λ (s : Shape). NamesSuper s name) (sym added.is) absent.names) in
+        absent.nowhere there.0 (named_old w classes there.0 name there.1)
   ]
 
   -- ---- supertypes of the right kind
@@ -156,8 +155,8 @@ module _ (w : List Shape) (dims : ℕ) (classes : List MadeClass) (world : IsWor
         subst (λ (parent : Option (List ℕ)). MatchOption parent (made.name ≡ object_name) (λ name. (o : Shape) → Contains (standin_world w classes) o → o.name ≡ name → (IsInterface o → ⊥) × (IsFinal o → ⊥)))
         (sym of.parent) (open_class class (among_at w c class at) no_interface not_final);
     superinterfaces = λ other there names.
-      let lib = of.interfaces.only other.name names in
-      subst IsInterface (same_was lib.0 lib.1 other there (sym lib.2)) (interface_stays lib.0 lib.4);
+        let lib = of.interfaces.only other.name names in
+        subst IsInterface (same_was lib.0 lib.1 other there (sym lib.2)) (interface_stays lib.0 lib.4);
     of_interface = λ flag. absurd (no_flag made of.flags flag);
   }
   right_new made new (kinds.part class collected of) = record {
@@ -174,11 +173,11 @@ module _ (w : List Shape) (dims : ℕ) (classes : List MadeClass) (world : IsWor
         subst (λ (parent : Option (List ℕ)). MatchOption parent ((kept_class class).name ≡ object_name) (λ name. (o : Shape) → Contains (standin_world w classes) o → o.name ≡ name → (IsInterface o → ⊥) × (IsFinal o → ⊥)))
         (sym (parent_stays class)) (by class.parent refl (world.right_supers class has).superclass);
     superinterfaces = λ other there names.
-      let names' : Contains class.interfaces other.name = subst (λ (list : List (List ℕ)). Contains list other.name) (interfaces_stay class) names in
-      let old = super_was class has other there (inr names') in
-      let named : other.name ≡ old.class.name = sym (ap (λ (s : Shape). s.name) old.is) ∙ name_stays old.class in
-      subst IsInterface old.is
-      (interface_stays old.class ((world.right_supers class has).superinterfaces old.class old.there (subst (λ (n : List ℕ). Contains class.interfaces n) named names')));
+        let names' : Contains class.interfaces other.name = subst (λ (list : List (List ℕ)). Contains list other.name) (interfaces_stay class) names in
+        let old = super_was class has other there (inr names') in
+        let named : other.name ≡ old.class.name = sym (ap (λ (s : Shape). s.name) old.is) ∙ name_stays old.class in
+        subst IsInterface old.is
+        (interface_stays old.class ((world.right_supers class has).superinterfaces old.class old.there (subst (λ (n : List ℕ). Contains class.interfaces n) named names')));
     of_interface = λ flag. parent_stays class ∙ (world.right_supers class has).of_interface (interface_was class flag);
   }
     where
@@ -187,10 +186,10 @@ module _ (w : List Shape) (dims : ℕ) (classes : List MadeClass) (world : IsWor
           → MatchOption parent ((kept_class class).name ≡ object_name) (λ name. (o : Shape) → Contains (standin_world w classes) o → o.name ≡ name → (IsInterface o → ⊥) × (IsFinal o → ⊥))
       by None is right = name_stays class ∙ right
       by (Some name) is right = λ other there same.
-        let old = super_was class has other there (inl (is ∙ ap Some (sym same))) in
-        let named : old.class.name ≡ name = sym (name_stays old.class) ∙ ap (λ (s : Shape). s.name) old.is ∙ same in
-        let was = right old.class old.there named in
-        (λ flag. was.0 (interface_was old.class (subst IsInterface (sym old.is) flag)), λ flag. was.1 (final_was old.class (subst IsFinal (sym old.is) flag)))
+          let old = super_was class has other there (inl (is ∙ ap Some (sym same))) in
+          let named : old.class.name ≡ name = sym (name_stays old.class) ∙ ap (λ (s : Shape). s.name) old.is ∙ same in
+          let was = right old.class old.there named in
+          (λ flag. was.0 (interface_was old.class (subst IsInterface (sym old.is) flag)), λ flag. was.1 (final_was old.class (subst IsFinal (sym old.is) flag)))
 
   pub right_supers : (x : Shape) → Contains (standin_world w classes) x → HasRightSupers (standin_world w classes) x
   right_supers x has = elim (from_world w classes x has) [

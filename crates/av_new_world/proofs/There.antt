@@ -1,5 +1,5 @@
 -- Methods of the classes of a stand-in in its world.
-use Rattle.std.proofs.Common.{◌≡◌, ℕ, zero, suc, ◌+◌, ◌⊎◌, inl, inr, Bool, true, false, List, ◌∷◌, [], ◌++◌, map, Contains, Some, sym, subst, ap, ◌∙◌, refl, arith}
+use Rattle.std.proofs.Common.{◌≡◌, ℕ, ◌+◌, ◌⊎◌, inl, inr, Bool, true, false, List, ◌∷◌, [], ◌++◌, map, Contains, Some, sym, subst, ap, ◌∙◌, refl}
 use Rattle.std.specs.Prelude.{if◌then◌else◌, bit_and, not, ◌||◌, codes}
 use Rattle.std.specs.Fmt.{decimal}
 use Rattle.std.specs.List.{list_any}
@@ -7,23 +7,20 @@ use Rattle.std.specs.Str.{bytes_eq}
 use Rattle.std.proofs.lemmas.Bool.Decides.{Decides-eqb}
 use Rattle.std.proofs.lemmas.Slice.Eq.{bytes_eq-Decides}
 use Rattle.std.proofs.lemmas.List.Elements.{Contains-append_left, Contains-append_right, Contains-append_cases}
-use Rattle.jv_types.specs.declared.access.Access.{Access}
 use Rattle.jv_types.specs.declared.desc.MethodDesc.{MethodDesc}
 use Rattle.jv_types.specs.declared.shapes.MethodShape.{MethodShape}
 use Rattle.jv_types.specs.declared.shapes.Shape.{Shape}
-use Rattle.jv_world.specs.Worlds.{IsInterface}
 use Rattle.jv_desc.specs.Texts.{method_text}
-use Rattle.jv_resolve.specs.Members.{init_name}
 use Rattle.jv_lists.proofs.Among.{mapped_from, mapped_to, none_there, first_or_later, is_first, is_later}
 use Rattle.jv_resolve.specs.Packages.{package_of}
 use Rattle.av_conditions.specs.CoreClasses.{void_desc}
 use Rattle.av_standin_of.specs.Codes.{Code}
-use Rattle.av_standin_of.specs.Names.{extra_desc, method_key}
+use Rattle.av_standin_of.specs.Names.{method_key}
 use Rattle.av_standin_of.specs.Classes.{MadeClass, MadeMethod, access, method, kept_method, extra_method, is_interface, item_methods, IsOfCollected}
 use Rattle.av_standin_of.specs.Classes.{IsStandinClass as kinds}
 use Rattle.av_standin_of.specs.Classes.{IsMethodOf as methods}
 use Rattle.av_standin_of.specs.Classes.{IsMethodOfAny as any_methods}
-use Rattle.av_standin_of.specs.Worlds.{kept_class, in_place, new_class, is_new, shape_of, standin_world}
+use Rattle.av_standin_of.specs.Worlds.{in_place, new_class, is_new, shape_of, standin_world}
 use Rattle.av_sketches.specs.Conditions.{HasDistinctMembers, IsFreeName}
 use Rattle.av_new_world.specs.Conditions.{HasMethodsThere, MayMakeWorld}
 use Rattle.av_new_world.proofs.Elements.{keeps, adds}
@@ -57,7 +54,7 @@ module _ (class : Shape) where
   apart distinct x y in_x in_y names descs = elim (cases x in_x) [
     | inl (a, has_a, is_a) ↦ elim (cases y in_y) [
       | inl (b, has_b, is_b) ↦
-        sym is_a ∙ ap (λ (d : MethodShape). shape_of (kept_method class d)) (distinct.methods a b has_a has_b (ap method_key is_a ∙ key_is x y names descs ∙ sym (ap method_key is_b))) ∙ is_b
+          sym is_a ∙ ap (λ (d : MethodShape). shape_of (kept_method class d)) (distinct.methods a b has_a has_b (ap method_key is_a ∙ key_is x y names descs ∙ sym (ap method_key is_b))) ∙ is_b
       | inr is_b ↦ absurd (distinct.none_extra a has_a (ap method_key is_a ∙ key_is x y names descs ∙ ap method_key is_b))
     ]
     | inr is_a ↦ elim (cases y in_y) [
@@ -111,6 +108,7 @@ item_flagged number (code ∷ items) method has = elim (first_or_later (item_met
   | inl is ↦ subst (λ (m : MadeMethod). m.shape ≡ flagged 0x0009 m.shape) is refl
   | inr later ↦ item_flagged (number + 1) items method later
 ]
+
 module _ (w : List Shape) (dims : ℕ) (classes : List MadeClass) (may : MayMakeWorld w dims classes) where
   new_there : (made : MadeClass) (flags : ℕ) → Contains classes made → IsFreeName w made.name → ((method : MadeMethod) → Contains made.methods method → method.shape ≡ flagged flags method.shape)
       → HasMethodsThere (standin_world w classes) made
@@ -120,9 +118,9 @@ module _ (w : List Shape) (dims : ℕ) (classes : List MadeClass) (may : MayMake
     named = refl;
     methods = λ method there. mapped_to shape_of made.methods method there;
     distinct = λ x y in_x in_y names descs.
-      let a = mapped_from shape_of made.methods x in_x in
-      let b = mapped_from shape_of made.methods y in_y in
-      flagged_same flags x y (subst (λ (s : MethodShape). s ≡ flagged flags s) a.2 (each a.0 a.1)) (subst (λ (s : MethodShape). s ≡ flagged flags s) b.2 (each b.0 b.1)) names descs;
+        let a = mapped_from shape_of made.methods x in_x in
+        let b = mapped_from shape_of made.methods y in_y in
+        flagged_same flags x y (subst (λ (s : MethodShape). s ≡ flagged flags s) a.2 (each a.0 a.1)) (subst (λ (s : MethodShape). s ≡ flagged flags s) b.2 (each b.0 b.1)) names descs;
   }
 
   any_flagged : (c : ℕ) (class : Shape) (method : MadeMethod) → any_methods w c class method → method.shape ≡ flagged 0x0001 method.shape

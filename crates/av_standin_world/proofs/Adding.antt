@@ -1,5 +1,5 @@
 -- The shapes of the classes that a stand-in adds.
-use Rattle.std.proofs.Common.{◌≡◌, ℕ, suc, ◌<◌, ◌+◌, Bool, true, false, List, [], ◌∷◌, ◌++◌, length, map, take, get_or, refl, ap, subst, sym, ◌∙◌, append-nil}
+use Rattle.std.proofs.Common.{◌≡◌, ℕ, ◌<◌, ◌+◌, Bool, true, false, List, [], ◌∷◌, ◌++◌, length, map, take, get_or, refl, ap, sym, ◌∙◌, append-nil}
 use Rattle.std.specs.Prelude.{cond}
 use Rattle.std.specs.List.{filter}
 use Rattle.std.proofs.lemmas.List.{map-append, append_assoc}
@@ -7,7 +7,6 @@ use Rattle.std.proofs.lemmas.List.Elements.{filter-append}
 use Rattle.jv_types.specs.declared.shapes.MethodShape.{MethodShape}
 use Rattle.jv_types.specs.declared.shapes.Shape.{Shape}
 use Rattle.jv_lists.proofs.Places.{take_one}
-use Rattle.av_standin_of.specs.Classes.{MadeClass}
 use Rattle.av_standin_of.specs.Worlds as worlds
 use Rattle.av_sketches.specs.declared.sketch.Sketch.{Sketch}
 use Rattle.av_sketches.specs.declared.sketch.SketchedMethod.{SketchedMethod}

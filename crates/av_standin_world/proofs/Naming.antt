@@ -1,8 +1,8 @@
 -- Whether a world has a class of a name.
-use Rattle.std.proofs.Common.{◌≡◌, ℕ, Bool, true, false, ◌⊎◌, inl, inr, List, [], ◌∷◌, Contains, Option, None, Some, refl, ap, subst, sym, ◌∙◌}
+use Rattle.std.proofs.Common.{◌≡◌, ℕ, Bool, true, false, inl, inr, List, [], ◌∷◌, Contains, Option, None, Some, refl, ap, subst, sym, ◌∙◌}
 use Rattle.std.specs.Prelude.{not, ◌||◌, IfSome, IfNone}
-use Rattle.std.specs.Option.{is_none}
-use Rattle.std.specs.List.{list_any, slice_get}
+use Rattle.std.specs.Option.{is_none, is_some}
+use Rattle.std.specs.List.{list_any}
 use Rattle.std.specs.Str.{bytes_eq}
 use Rattle.std.proofs.lemmas.Slice.Eq.{bytes_eq-Decides}
 use Rattle.jv_types.specs.declared.ids.ClassId.{ClassId}
@@ -38,3 +38,10 @@ new_by w name None some none =
     (λ class has. untrue (bytes_eq class.name name) (λ same. none has.0 (class, placed w class has, (bytes_eq-Decides class.name name).0 same)))))
 new_by w name (Some c) (class, at, same) none =
     ap not (sym (any_passes (λ (s : Shape). bytes_eq s.name name) w class (among_at w c.number class at) ((bytes_eq-Decides class.name name).1 same)))
+
+-- the opposite of whether it is there
+pub flipped : (found : Option ClassId) (b : Bool) → is_some found ≡ not b → b ≡ is_none found
+flipped None true is = refl
+flipped None false is = is
+flipped (Some c) true is = is
+flipped (Some c) false is = refl

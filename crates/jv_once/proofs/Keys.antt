@@ -1,10 +1,10 @@
 -- Lists whose elements have keys, no two of which are one.
-use Rattle.std.proofs.Common.{◌≡◌, ℕ, zero, suc, ◌<◌, Bool, true, false, inl, inr, List, [], ◌∷◌, length, map, Contains, Option, Some, None, ap, sym, ◌∙◌, refl, subst, arith}
-use Rattle.std.specs.List.{slice_get, filter, AllByRecursion}
+use Rattle.std.proofs.Common.{◌≡◌, ℕ, zero, suc, Bool, true, false, inl, inr, List, [], ◌∷◌, map, Contains, Some, ap, sym, ◌∙◌, refl, subst, arith}
+use Rattle.std.specs.List.{slice_get, filter}
 use Rattle.std.specs.Prelude.{cond}
 use Rattle.std.specs.List.Sorted.{IsStrictlySortedBy}
 use Rattle.std.specs.declared.cmp.Ordering.{Ordering}
-use Rattle.std.specs.declared.cmp.Ordering.TheVariants.{Less, Equal}
+use Rattle.std.specs.declared.cmp.Ordering.TheVariants.{Less}
 use Rattle.jv_lists.proofs.Among.{is_first, is_later, first_or_later, none_there, mapped_from, mapped_to, of_each}
 use Rattle.jv_lists.proofs.Places.{among_at}
 use Rattle.jv_once.specs.Once.{StandOnce}
@@ -34,9 +34,9 @@ pub once_placed : {X K : Type 0} (key : X → K) (xs : List X) → ((i j : ℕ) 
 once_placed key [] one = tt
 once_placed {X} {K} key (z ∷ zs) one = (
   λ has.
-    let from = mapped_from key zs (key z) has in
-    let later : zero ≡ suc from.1.0 = one zero (suc from.1.0) z from.0 refl (placed_at zs from.0 from.1) (sym from.2) in
-    omega (arith, later),
+      let from = mapped_from key zs (key z) has in
+      let later : zero ≡ suc from.1.0 = one zero (suc from.1.0) z from.0 refl (placed_at zs from.0 from.1) (sym from.2) in
+      omega (arith, later),
   once_placed key zs (λ i j x y at_i at_j same. suc_same i j (one (suc i) (suc j) x y at_i at_j same)),
 )
   where

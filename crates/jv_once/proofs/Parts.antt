@@ -1,7 +1,7 @@
 -- How many elements a list has in which none stands twice, and lists of two parts.
-use Rattle.std.proofs.Common.{◌≡◌, ℕ, suc, ◌<◌, ◌≤◌, ◌⊎◌, inl, inr, List, [], ◌∷◌, ◌++◌, length, take, drop, get_or, Contains, ap, sym, ◌∙◌, subst, arith, take-append-drop, drop-cons, length-append}
+use Rattle.std.proofs.Common.{◌≡◌, ℕ, suc, ◌<◌, ◌≤◌, inl, inr, List, [], ◌∷◌, ◌++◌, length, take, drop, get_or, Contains, ap, sym, ◌∙◌, subst, arith, take-append-drop, drop-cons, length-append}
 use Rattle.std.proofs.lemmas.List.Elements.{Contains-append_left, Contains-append_right, Contains-append_cases}
-use Rattle.jv_lists.proofs.Among.{is_first, is_later, first_or_later, none_there}
+use Rattle.jv_lists.proofs.Among.{is_first, is_later, first_or_later}
 use Rattle.jv_once.specs.Once.{StandOnce}
 
 -- a list in two parts round one of its elements

@@ -1,6 +1,6 @@
 use Rattle.av_given.specs.Givens.{application_of}
 use Rattle.jv_world.specs.Worlds.{IsWorld}
-use Rattle.jv_worlds.proofs.Causes.{none_circular, none_missing, none_wrong}
+use Rattle.av_build.proofs.Causes.{none_circular, none_missing, none_wrong}
 use Rattle.av_build.proofs.worlds.world_of.Goals as goal
 
 pub build-requires : goal.build-requires

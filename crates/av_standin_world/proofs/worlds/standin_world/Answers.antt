@@ -1,4 +1,4 @@
-use Rattle.std.proofs.Common.{◌≡◌, ℕ, List, ◌++◌, map, ap, ◌∙◌, sym, subst, Ok, Err}
+use Rattle.std.proofs.Common.{◌≡◌, ℕ, List, ◌++◌, map, ap, ◌∙◌, sym, subst}
 use Rattle.std.specs.List.{filter}
 use Rattle.jv_types.specs.declared.shapes.Shape.{Shape}
 use Rattle.jv_world.specs.Worlds.{IsWorld}
@@ -46,4 +46,3 @@ pub unreachable-requires-in-Err-SuperKind : goal.unreachable-requires-in-Err-Sup
 unreachable-requires-in-Err-SuperKind c =
     none_wrong c.in_ok-shapes.shapes.items (world_is c.args.world.now c.args.sketches.now c.in_ok-kept.kept.items c.in_ok-shapes.shapes.items c.in_ok-kept.ensures.kept c.in_ok-shapes.ensures (λ dims. c.standins_make_a_world.ensures c.args.world.now dims (map (made_class dims) c.args.sketches.now)) c.in_ok-kept.ensures.world c.requires)
     c.in-Err-SuperKind.field-0 c.in-Err-SuperKind.field-0-0 c.in-Err-SuperKind.ensures.refused c.in-Err-SuperKind.field-0-is
-
