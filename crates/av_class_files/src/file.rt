@@ -1,6 +1,6 @@
 ghost use Rattle.std.specs.Prelude.{◌≡◌, Err, Some, None, IfOk};
 ghost use Rattle.std.specs.List.{AllZip, flat_map};
-ghost use Rattle.jv_world.specs.Worlds.{IsNamed};
+ghost use Rattle.jv_world.specs.Worlds.{IsNamed, IsWorld};
 ghost use Rattle.av_standin_of.specs.Files.{class_file};
 ghost use Rattle.av_standin_of.specs.Worlds.{coded_method, IsBodyOf};
 ghost use Rattle.av_sketches.specs.Sketches.{made_class};
@@ -38,7 +38,8 @@ struct Heads {
 /// The class of this name, which the world has.
 fn class_of(world: &World, name: &Name) -> ClassId
     requires { HasClass world.now name.now }
-    ensures { IsNamed world.now result.number name.now }
+    ensures named { IsNamed world.now result.number name.now }
+    ensures world { IsWorld world.now }
 {
     match world.class(name) {
         Some(class) => class,
