@@ -1,11 +1,10 @@
 -- The code that a recipe gives a method.
-use Rattle.std.proofs.Common.{◌≡◌, ℕ, ◌<◌, ◌≤◌, ◌^◌, Bool, true, false, List, [], length, Contains, Option, Some, None, refl, sym, ap, subst, ◌∙◌, slice_get, arith}
-use Rattle.std.specs.Prelude.{if◌then◌else◌, ◌-◌, ◌&&◌, not, min, IfOk, IfSome, IsSomeAnd, Result, Ok, Err}
+use Rattle.std.proofs.Common.{◌≡◌, ℕ, ◌≤◌, ◌^◌, Bool, true, false, List, [], Contains, Option, Some, None, refl, sym, ap, subst, ◌∙◌, slice_get, arith}
+use Rattle.std.specs.Prelude.{if◌then◌else◌, ◌-◌, ◌&&◌, not, min, IsSomeAnd}
 use Rattle.std.proofs.lemmas.Option.{same_Some}
 use Rattle.jv_lists.proofs.Places.{among_at, placed}
 use Rattle.jv_types.specs.declared.ids.ClassId.{ClassId}
 use Rattle.jv_types.specs.declared.ids.MethodId.{MethodId}
-use Rattle.jv_types.specs.declared.desc.MethodDesc.{MethodDesc}
 use Rattle.jv_types.specs.declared.shapes.MethodShape.{MethodShape}
 use Rattle.jv_types.specs.declared.shapes.Shape.{Shape}
 use Rattle.jv_types.specs.declared.frames.FramedBody.{FramedBody}
@@ -19,12 +18,10 @@ use Rattle.av_asm.specs.Finishing.{IsFramed}
 use Rattle.av_standin_of.specs.Codes.{Code, built_of}
 use Rattle.av_standin_of.specs.Templates.{template, is_object, is_called, is_abstract, makes_fresh, begins_with, words_in}
 use Rattle.av_standin_of.specs.Files.{put_code}
-use Rattle.av_standin_of.specs.Worlds.{IsBodyOf}
 use Rattle.av_sketches.specs.declared.sketch.Recipe.{Recipe}
 use Rattle.av_sketches.specs.declared.sketch.Recipe.TheVariants as recipes
 use Rattle.av_sketches.specs.Sketches.{recipe_code}
 use Rattle.av_sketches.specs.Conditions.{IsFinishable}
-use Rattle.av_class_files.specs.Filing.{MayBeCoded}
 use Rattle.av_class_files.specs.Steps.{has_code, put_built, HasBody, HasMethodOnce, IsReady}
 
 -- ---- whether there is a code
@@ -34,23 +31,12 @@ some_by true b x y is = absurd cc
 some_by false true x y is = (x, refl)
 some_by false false x y is = (y, refl)
 
-none_by : (a b : Bool) (x y : Code) → not a ≡ false → (if a then None else if b then Some x else Some y) ≡ None
-none_by true b x y is = refl
-none_by false b x y is = absurd cc
-
 pub code_given : (dims : ℕ) (class : List ℕ) (shape : MethodShape) (recipe : Recipe) → has_code recipe ≡ true → (code : Code) × (recipe_code dims class shape recipe ≡ Some code)
 code_given dims class shape (recipes.Extra parent) is = (_, refl)
 code_given dims class shape (recipes.Collected parent declared) is =
     some_by (is_abstract declared) (is_object class && is_called init_name declared) makes_fresh (template class declared (begins_with class declared parent)) is
 code_given dims class shape recipes.Template is = (_, refl)
 code_given dims class shape (recipes.Item item) is = (_, refl)
-
-pub none_given : (dims : ℕ) (class : List ℕ) (shape : MethodShape) (recipe : Recipe) → has_code recipe ≡ false → recipe_code dims class shape recipe ≡ None
-none_given dims class shape (recipes.Extra parent) is = absurd cc
-none_given dims class shape (recipes.Collected parent declared) is =
-    none_by (is_abstract declared) (is_object class && is_called init_name declared) makes_fresh (template class declared (begins_with class declared parent)) is
-none_given dims class shape recipes.Template is = absurd cc
-none_given dims class shape (recipes.Item item) is = absurd cc
 
 -- ---- the method
 

@@ -1,10 +1,9 @@
 -- What is put one by one, each with the pool that the one before left.
-use Rattle.std.proofs.Common.{◌≡◌, ℕ, ◌+◌, ◌<◌, ◌≤◌, List, [], ◌∷◌, ◌++◌, length, map, take, drop, get_or, Option, Some, None, refl, sym, ap, subst, ◌∙◌, append_assoc, append-nil}
-use Rattle.std.specs.Prelude.{IsSomeAnd}
+use Rattle.std.proofs.Common.{◌≡◌, ℕ, ◌+◌, ◌<◌, List, [], ◌∷◌, ◌++◌, length, map, take, get_or, Option, Some, None, refl, sym, ap, subst, ◌∙◌, append_assoc, append-nil}
 use Rattle.std.specs.List.{AllZip, flat_map}
-use Rattle.std.proofs.lemmas.List.{drop_all, map-append, take_all}
+use Rattle.std.proofs.lemmas.List.{map-append}
 use Rattle.std.proofs.lemmas.Grind.{flat_map-append}
-use Rattle.jv_lists.proofs.Places.{drop_one, take_one}
+use Rattle.jv_lists.proofs.Places.{take_one}
 use Rattle.jv_types.specs.declared.frames.FramedBody.{FramedBody}
 use Rattle.jv_types.specs.declared.shapes.Shape.{Shape}
 use Rattle.jv_pool.specs.declared.item.PoolItem.{PoolItem}
@@ -14,7 +13,7 @@ use Rattle.av_asm.specs.Mapping.{put_each}
 use Rattle.av_asm.proofs.Putting.{behind}
 use Rattle.av_standin_of.specs.Codes.{Code}
 use Rattle.av_standin_of.specs.Classes.{MadeMethod}
-use Rattle.av_standin_of.specs.Worlds.{Coded, coded_method, IsBodyOf}
+use Rattle.av_standin_of.specs.Worlds.{coded_method, IsBodyOf}
 use Rattle.av_class_files.specs.Steps.{listed, HasBody}
 
 -- ---- what is put so far
@@ -22,13 +21,6 @@ use Rattle.av_class_files.specs.Steps.{listed, HasBody}
 -- of all some are left, and those before them were put
 pub record IsPutSoFar {A B : Type 0} (one : A → List PoolItem → Option (B × List PoolItem)) (all left : List A) (initial now : List PoolItem) (written : List B) : Type 0 where
   pub puts : put_each one all initial ≡ behind written (put_each one left now)
-
-pub none_put : {A B : Type 0} (one : A → List PoolItem → Option (B × List PoolItem)) (all : List A) (pool : List PoolItem) → IsPutSoFar one all all pool pool []
-none_put {A} {B} one all pool = record { puts = by (put_each one all pool) }
-  where
-    by : (o : Option (List B × List PoolItem)) → o ≡ behind [] o
-    by None = refl
-    by (Some more) = refl
 
 pub one_more_put : {A B : Type 0} (one : A → List PoolItem → Option (B × List PoolItem)) (all left rest : List A) (x : A) (y : B) (initial now new : List PoolItem) (written more : List B)
     → left ≡ x ∷ rest → IsPutSoFar one all left initial now written → one x now ≡ Some (y, new) → more ≡ written ++ y ∷ [] → IsPutSoFar one all rest initial new more
@@ -42,17 +34,6 @@ one_more_put {A} {B} one all left rest x y initial now new written more first so
     by : (o : Option (List B × List PoolItem)) → behind written (o >>= λ b. Some (y ∷ b.0, b.1)) ≡ behind (written ++ y ∷ []) o
     by None = refl
     by (Some b) = ap (λ (ys : List B). Some (ys, b.1)) (sym (append_assoc written (y ∷ []) b.0))
-
-pub one_finds_none : {A B : Type 0} (one : A → List PoolItem → Option (B × List PoolItem)) (all left rest : List A) (x : A) (initial now : List PoolItem) (written : List B)
-    → left ≡ x ∷ rest → IsPutSoFar one all left initial now written → one x now ≡ None → put_each one all initial ≡ None
-one_finds_none {A} {B} one all left rest x initial now written first so_far none =
-    so_far.puts ∙ ap (λ (xs : List A). behind written (put_each one xs now)) first
-    ∙ ap (λ (o : Option (B × List PoolItem)). behind written (o >>= λ a. put_each one rest a.1 >>= λ b. Some (a.0 ∷ b.0, b.1))) none
-
-pub all_put : {A B : Type 0} (one : A → List PoolItem → Option (B × List PoolItem)) (all left : List A) (initial now : List PoolItem) (written : List B)
-    → left ≡ [] → IsPutSoFar one all left initial now written → put_each one all initial ≡ Some (written, now)
-all_put {A} {B} one all left initial now written none so_far =
-    so_far.puts ∙ ap (λ (xs : List A). behind written (put_each one xs now)) none ∙ ap (λ (ys : List B). Some (ys, now)) (append-nil written)
 
 -- ---- the bodies of methods
 

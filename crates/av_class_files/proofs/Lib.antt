@@ -1,3 +1,3 @@
 pub mod Building
 pub mod Each
-pub mod Whole
+pub mod There

@@ -1,7 +1,7 @@
 -- What was built is the code that the recipe gives.
-use Rattle.std.proofs.Common.{◌≡◌, List, Option, Some, sym, subst, ◌∙◌}
+use Rattle.std.proofs.Common.{List, Option, sym, subst, ◌∙◌}
 use Rattle.std.proofs.lemmas.Result.{IfOk-weaker}
-use Rattle.std.specs.Prelude.{IfOk, IsSomeAnd}
+use Rattle.std.specs.Prelude.{IsSomeAnd}
 use Rattle.jv_pool.specs.declared.item.PoolItem.{PoolItem}
 use Rattle.jv_attr.specs.declared.attr.Attr.{Attr}
 use Rattle.jv_attr.specs.declared.attr.CodeAttr.{CodeAttr}

@@ -1,5 +1,5 @@
 -- The world has the class.
-use Rattle.av_class_files.proofs.Whole.{class_there}
+use Rattle.av_class_files.proofs.There.{class_there}
 use Rattle.av_class_files.proofs.file.class_of.Goals as goal
 
 pub unreachable-requires : goal.unreachable-requires

@@ -2,7 +2,7 @@
 use Rattle.std.proofs.Common.{List, sym, subst}
 use Rattle.av_sketches.specs.declared.sketch.SketchedMethod.{SketchedMethod}
 use Rattle.av_class_files.specs.Steps.{MayAllBePut}
-use Rattle.av_class_files.proofs.Whole.{methods_there}
+use Rattle.av_class_files.proofs.There.{methods_there}
 use Rattle.av_class_files.proofs.file.file_of.Goals as goal
 
 pub add_methods-requires-clause-may : goal.add_methods-requires-clause-may
