@@ -1,0 +1,3 @@
+pub mod Choices
+pub mod Naming
+pub mod Rising
