@@ -1,2 +1,6 @@
 pub mod Pools
 pub mod Named
+pub mod Each
+pub mod Types
+pub mod Frames
+pub mod MapAttrs
