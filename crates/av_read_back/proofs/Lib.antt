@@ -4,3 +4,5 @@ pub mod Each
 pub mod Types
 pub mod Frames
 pub mod MapAttrs
+pub mod Plans
+pub mod Codes
