@@ -6,3 +6,6 @@ pub mod Frames
 pub mod MapAttrs
 pub mod Plans
 pub mod Codes
+pub mod Stays
+pub mod Members
+pub mod Classes
