@@ -1,0 +1,11 @@
+pub mod Pools
+pub mod Named
+pub mod Each
+pub mod Types
+pub mod Frames
+pub mod MapAttrs
+pub mod Plans
+pub mod Codes
+pub mod Stays
+pub mod Members
+pub mod Classes
