@@ -1,0 +1,9 @@
+mod Picked
+mod Members
+mod Classes
+mod Parts
+mod Names
+mod Dimensions
+mod Reduced
+mod Counts
+mod Making
