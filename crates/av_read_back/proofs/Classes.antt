@@ -1,5 +1,5 @@
 -- The file of a class that may be filed.
-use Rattle.std.proofs.Common.{◌≡◌, ℕ, ◌+◌, ◌<◌, ◌≤◌, ◌⊎◌, List, [], ◌∷◌, length, Option, Some, None, refl, sym, ap, subst, ◌∙◌, inl, inr, arith}
+use Rattle.std.proofs.Common.{◌≡◌, ℕ, ◌<◌, ◌⊎◌, List, [], ◌∷◌, length, Option, Some, None, refl, sym, ap, subst, ◌∙◌, inl, inr, arith}
 use Rattle.std.specs.Prelude.{IfSome, slice_get}
 use Rattle.std.specs.List.{AllByRecursion, AllZip}
 use Rattle.std.proofs.lemmas.Slice.Zip.{AllZip-long}
@@ -7,7 +7,7 @@ use Rattle.jv_lists.proofs.Zips.{zip_back}
 use Rattle.jv_types.specs.declared.shapes.FieldShape.{FieldShape}
 use Rattle.jv_desc.specs.Texts.{desc_text, method_text}
 use Rattle.jv_pool.specs.declared.item.PoolItem.{PoolItem}
-use Rattle.jv_pool.specs.Lookups.{text_at, class_name_at}
+use Rattle.jv_pool.specs.Lookups.{text_at}
 use Rattle.jv_attr.specs.declared.owner.Owner.TheVariants as owner
 use Rattle.jv_attr.specs.AttrText.{IsShort}
 use Rattle.jv_names.specs.PoolNames.{HasClassName}
@@ -18,11 +18,10 @@ use Rattle.jv_class.specs.declared.class_file.Member.{Member}
 use Rattle.jv_class.specs.declared.class_file.ClassFile.{ClassFile}
 use Rattle.jv_class.specs.ClassTexts.{class_text, IsU2, IsMember, IsField, IsMethodMember, AreDistinct, IsClass, IsFewMember, ClassText}
 use Rattle.av_asm.specs.Mapping.{put_each}
-use Rattle.av_standin_of.specs.Names.{field_key, method_key}
 use Rattle.av_standin_of.specs.Classes.{MadeMethod, MadeClass}
 use Rattle.av_standin_of.specs.Files.{put_parent, put_field, put_method, class_file}
 use Rattle.av_read_back.specs.Fileable.{IsFiledName, IsFileableField, IsFileableMethod, IsFileable}
-use Rattle.av_read_back.proofs.Pools.{IsFilePool, Grown, empty_pool, grown_not, grows_on, has_class_later}
+use Rattle.av_read_back.proofs.Pools.{IsFilePool, empty_pool, grown_not, grows_on, has_class_later}
 use Rattle.av_read_back.proofs.Named.{class_put}
 use Rattle.av_read_back.proofs.Each.{zip_second, IsOnePut, AreEachPut, each_put}
 use Rattle.av_read_back.proofs.Plans.{each_of}
@@ -114,14 +113,36 @@ file_of made this super interfaces fields methods pool = record {
   attrs = [];
 }
 
+-- the parts, each put behind the one before
+parts_of : (made : MadeClass) (this super : ℕ) (interfaces : List ℕ) (fields methods : List Member) (one two three four pool : List PoolItem)
+    → IsOnePut IsFiledClass [] one made.name this → IsOnePut IsFiledParent one two made.parent super → AreEachPut IsFiledClass two three made.interfaces interfaces → AreEachPut IsFiledField three four made.fields fields
+    → AreEachPut IsFiledMethod four pool made.methods methods → IsFiled made (file_of made this super interfaces fields methods pool)
+parts_of made this super interfaces fields methods one two three four pool h1 h2 h3 h4 h5 =
+    let from_four : Grows four pool = h5.grown.grows in
+    let from_three : Grows three pool = grows_on three four pool h4.grown.grows from_four in
+    let from_two : Grows two pool = grows_on two three pool h3.grown.grows from_three in
+    let from_one : Grows one pool = grows_on one two pool h2.grown.grows from_two in
+    record {
+      pool = h5.grown.good;
+      minor = refl;
+      major = refl;
+      access = refl;
+      this_class = name_later made.name this one pool from_one h1.is;
+      super_class = record { is = parent_later two pool super from_two h2.is.is; small = h2.is.small };
+      interfaces = zip_later IsFiledClass three pool (λ name i h. name_later name i three pool from_three h) made.interfaces interfaces h3.are;
+      fields = zip_later IsFiledField four pool (λ field m h. field_later field m four pool from_four h) made.fields fields h4.are;
+      methods = h5.are;
+      attrs = refl;
+    }
+
 filed : (made : MadeClass) (file : ClassFile) → IsFileable made → class_file made ≡ Some file → IsFiled made file
 filed made file may e =
     let a = bind_some (put_class made.name [])
     (λ this. put_parent made.parent this.1 >>= λ super. put_each put_class made.interfaces super.1 >>= λ interfaces. put_each put_field made.fields interfaces.1 >>= λ fields. put_each put_method made.methods fields.1 >>= λ methods.
-        Some (file_of made this.0 super.0 interfaces.0 fields.0 methods.0 methods.1)) file e in
+    Some (file_of made this.0 super.0 interfaces.0 fields.0 methods.0 methods.1)) file e in
     let b = bind_some (put_parent made.parent a.0.1)
     (λ super. put_each put_class made.interfaces super.1 >>= λ interfaces. put_each put_field made.fields interfaces.1 >>= λ fields. put_each put_method made.methods fields.1 >>= λ methods.
-        Some (file_of made a.0.0 super.0 interfaces.0 fields.0 methods.0 methods.1)) file a.2 in
+    Some (file_of made a.0.0 super.0 interfaces.0 fields.0 methods.0 methods.1)) file a.2 in
     let c = bind_some (put_each put_class made.interfaces b.0.1)
     (λ interfaces. put_each put_field made.fields interfaces.1 >>= λ fields. put_each put_method made.methods fields.1 >>= λ methods. Some (file_of made a.0.0 b.0.0 interfaces.0 fields.0 methods.0 methods.1)) file b.2 in
     let d = bind_some (put_each put_field made.fields c.0.1) (λ fields. put_each put_method made.methods fields.1 >>= λ methods. Some (file_of made a.0.0 b.0.0 c.0.0 fields.0 methods.0 methods.1)) file c.2 in
@@ -131,25 +152,8 @@ filed made file may e =
     let interfaces = each_put put_class IsFiledName IsFiledClass name_put name_later made.interfaces b.0.1 c.0 super.grown.good (each_of IsFiledName made.interfaces may.interfaces) c.1 in
     let fields = each_put put_field IsFileableField IsFiledField field_put field_later made.fields c.0.1 d.0 interfaces.grown.good (each_of IsFileableField made.fields may.fields) d.1 in
     let methods = each_put put_method IsFileableMethod IsFiledMethod method_put method_later made.methods d.0.1 f.0 fields.grown.good (each_of IsFileableMethod made.methods may.methods) f.1 in
-    let pool = f.0.1 in
-    let from_fields : Grows d.0.1 pool = methods.grown.grows in
-    let from_interfaces : Grows c.0.1 pool = grows_on c.0.1 d.0.1 pool fields.grown.grows from_fields in
-    let from_super : Grows b.0.1 pool = grows_on b.0.1 c.0.1 pool interfaces.grown.grows from_interfaces in
-    let from_this : Grows a.0.1 pool = grows_on a.0.1 b.0.1 pool super.grown.grows from_super in
-    let here = file_of made a.0.0 b.0.0 c.0.0 d.0.0 f.0.0 pool in
-    let parts : IsFiled made here = record {
-      pool = methods.grown.good;
-      minor = refl;
-      major = refl;
-      access = refl;
-      this_class = name_later made.name a.0.0 a.0.1 pool from_this this.is;
-      super_class = record { is = parent_later b.0.1 pool b.0.0 from_super super.is.is; small = super.is.small };
-      interfaces = zip_later IsFiledClass c.0.1 pool (λ name i h. name_later name i c.0.1 pool from_interfaces h) made.interfaces c.0.0 interfaces.are;
-      fields = zip_later IsFiledField d.0.1 pool (λ field m h. field_later field m d.0.1 pool from_fields h) made.fields d.0.0 fields.are;
-      methods = methods.are;
-      attrs = refl;
-    } in
-    given_as (IsFiled made) here file f.2 parts
+    given_as (IsFiled made) (file_of made a.0.0 b.0.0 c.0.0 d.0.0 f.0.0 f.0.1) file f.2
+    (parts_of made a.0.0 b.0.0 c.0.0 d.0.0 f.0.0 a.0.1 b.0.1 c.0.1 d.0.1 f.0.1 this super interfaces fields methods)
 
 -- ---- it is a class
 

@@ -1,6 +1,6 @@
 -- The code attribute that is put for a code.
-use Rattle.std.proofs.Common.{◌≡◌, ℕ, ◌+◌, ◌*◌, ◌<◌, ◌≤◌, Bool, true, false, List, [], ◌∷◌, ◌++◌, length, map, Option, Some, refl, sym, ap, subst, ◌∙◌, length-append, arith}
-use Rattle.std.specs.List.{AllByRecursion, flat_map, zip, filter}
+use Rattle.std.proofs.Common.{◌≡◌, ℕ, ◌+◌, ◌*◌, ◌<◌, ◌≤◌, false, List, [], ◌∷◌, ◌++◌, length, map, Some, refl, ap, ◌∙◌, length-append, arith}
+use Rattle.std.specs.List.{AllByRecursion, flat_map}
 use Rattle.std.proofs.lemmas.List.{length-map}
 use Rattle.jv_bytes.proofs.NumberLaws.{length-number_text}
 use Rattle.jv_types.specs.declared.raw_handler.RawHandler.{RawHandler}
@@ -15,13 +15,13 @@ use Rattle.std.specs.declared.convert.Infallible.{Infallible as NoCode}
 use Rattle.jv_attr.specs.AttrText.{inner_text, handler_text, IsRawHandler, code_text, IsCode, IsFewCode, IsShortCode}
 use Rattle.jv_read.specs.Reading.{◌>>=◌}
 use Rattle.jv_read.proofs.Fronts.{bind_some, given_as}
-use Rattle.jv_insn.specs.Entries.{put_all, Grows}
+use Rattle.jv_insn.specs.Entries.{put_all}
 use Rattle.jv_insn.specs.Encoding.{insn_size, insn_text, insns_text, is_left_out, AreLaid}
 use Rattle.jv_insn.proofs.ByteCounts.{size_of_text}
 use Rattle.av_asm.specs.declared.step.Step.{Step}
 use Rattle.av_asm.specs.declared.step.Span.{Span}
 use Rattle.av_asm.specs.Mapping.{put_maps}
-use Rattle.av_asm.specs.Planning.{starts_from, end_from, insns_of, handler_of, is_among, targets_in, most_words, Plan, plan_of, target_frames}
+use Rattle.av_asm.specs.Planning.{starts_from, end_from, handler_of, is_among, targets_in, Plan, plan_of, target_frames}
 use Rattle.av_asm.specs.Finishing.{raw_of, code_of, IsFullFrame}
 use Rattle.av_asm.proofs.Offsets.{are_laid}
 use Rattle.av_asm.proofs.Planned.{filtered}
@@ -32,7 +32,7 @@ use Rattle.av_read_back.specs.Fileable.{MayName, StepMayName, IsFileableRow, IsF
 use Rattle.av_read_back.proofs.Pools.{IsFilePool, Grown, grown_on}
 use Rattle.av_read_back.proofs.Named.{all_put}
 use Rattle.av_read_back.proofs.Frames.{MayPutFrame}
-use Rattle.av_read_back.proofs.MapAttrs.{AreMapsPut, maps_put}
+use Rattle.av_read_back.proofs.MapAttrs.{maps_put}
 use Rattle.av_read_back.proofs.Plans.{each_of, mapped, all_two, filter_count, zip_count, zip_holds, count_below, starts_below, placed_below, frames_below, insns_named, IsFileableFrame, frame_may}
 
 -- ---- the length of a code

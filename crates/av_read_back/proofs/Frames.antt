@@ -1,16 +1,14 @@
 -- Frames of a map, as they are put.
-use Rattle.std.proofs.Common.{◌≡◌, ℕ, ◌+◌, ◌*◌, ◌-◌, ◌<◌, ◌≤◌, List, [], ◌∷◌, ◌++◌, length, Option, Some, refl, sym, ap, subst, ◌∙◌, length-append, arith}
-use Rattle.std.specs.List.{AllByRecursion, AllZip, flat_map}
+use Rattle.std.proofs.Common.{◌≡◌, ℕ, ◌+◌, ◌*◌, ◌<◌, ◌≤◌, List, [], ◌∷◌, ◌++◌, length, Option, Some, refl, sym, ap, subst, ◌∙◌, length-append, arith}
+use Rattle.std.specs.List.{AllByRecursion, flat_map}
 use Rattle.std.proofs.lemmas.Slice.Zip.{AllZip-long}
 use Rattle.jv_lists.proofs.Among.{all_from}
 use Rattle.jv_bytes.proofs.NumberLaws.{length-number_text}
-use Rattle.jv_types.specs.declared.frames.VType.{VType}
 use Rattle.jv_types.specs.declared.frames.Frame.{Frame}
 use Rattle.jv_table.specs.declared.class_tables.FrameGroup.{FrameGroup}
 use Rattle.jv_table.specs.declared.class_tables.FrameGroup.TheVariants.{Full}
 use Rattle.jv_pool.specs.declared.item.PoolItem.{PoolItem}
 use Rattle.jv_pool.specs.PoolText.{u2}
-use Rattle.jv_attr.specs.declared.frame.MapType.{MapType}
 use Rattle.jv_attr.specs.declared.frame.MapFrame.{MapFrame}
 use Rattle.jv_attr.specs.FrameText.{group_of, IsType, types_text, parts_text, frame_text, HasParts, IsFrame, HasFewParts, HasFewTypes}
 use Rattle.jv_read.specs.Reading.{◌>>=◌}
@@ -18,7 +16,7 @@ use Rattle.jv_read.proofs.Fronts.{bind_some, given_as}
 use Rattle.jv_insn.specs.Entries.{Grows}
 use Rattle.av_asm.specs.Mapping.{put_each, put_type, values_of, put_frame, deltas_from}
 use Rattle.av_read_back.proofs.Pools.{IsFilePool, Grown, grown_on}
-use Rattle.av_read_back.proofs.Each.{zip_second, IsOnePut, AreEachPut, each_put}
+use Rattle.av_read_back.proofs.Each.{zip_second, IsOnePut, each_put}
 use Rattle.av_read_back.proofs.Types.{MayPutType, type_later, types_size, types_put}
 
 -- ---- a full frame

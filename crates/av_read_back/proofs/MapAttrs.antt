@@ -1,7 +1,6 @@
 -- The map of a code, as it is put.
-use Rattle.std.proofs.Common.{◌≡◌, ℕ, ◌+◌, ◌*◌, ◌<◌, ◌≤◌, Bool, true, false, List, [], ◌∷◌, ◌++◌, length, Option, Some, refl, sym, ap, ◌∙◌, length-append, arith}
+use Rattle.std.proofs.Common.{◌≡◌, ℕ, ◌+◌, ◌*◌, ◌≤◌, Bool, true, List, [], ◌∷◌, ◌++◌, length, Some, refl, ap, length-append, arith}
 use Rattle.std.specs.Prelude.{codes, ◌&&◌, nat_le, count_by}
-use Rattle.std.specs.Str.{bytes_eq}
 use Rattle.std.specs.List.{AllByRecursion, flat_map}
 use Rattle.std.specs.declared.convert.Infallible.{Infallible as NoCode}
 use Rattle.jv_bytes.proofs.NumberLaws.{length-number_text}
@@ -23,7 +22,7 @@ use Rattle.av_read_back.specs.Fileable.{FitsPool}
 use Rattle.av_read_back.proofs.Pools.{IsFilePool, Grown, grown_not, grown_on, text_later}
 use Rattle.av_read_back.proofs.Named.{text_put}
 use Rattle.av_read_back.proofs.Each.{ascii_fits}
-use Rattle.av_read_back.proofs.Frames.{MayPutFrame, AreFramesPut, frames_put}
+use Rattle.av_read_back.proofs.Frames.{MayPutFrame, frames_put}
 
 abbrev maps_name : List ℕ
 maps_name = codes "StackMapTable"

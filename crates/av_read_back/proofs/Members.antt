@@ -1,5 +1,5 @@
 -- Fields and methods, as they are put.
-use Rattle.std.proofs.Common.{◌≡◌, ℕ, ◌+◌, ◌<◌, ◌≤◌, Bool, true, false, not, cond, eqb, ◌&&◌, List, [], ◌∷◌, length, Option, Some, None, refl, sym, ap, subst, ◌∙◌, arith}
+use Rattle.std.proofs.Common.{◌≡◌, ℕ, ◌≤◌, Bool, true, false, not, cond, ◌&&◌, List, [], ◌∷◌, length, Option, Some, None, refl, ap, ◌∙◌, arith}
 use Rattle.std.specs.Prelude.{codes, ◌||◌, count_by, bit_and, IfSome}
 use Rattle.std.specs.Option.{is_some}
 use Rattle.std.specs.List.{AllByRecursion}
@@ -14,7 +14,7 @@ use Rattle.jv_attr.specs.declared.attr.Attr.{Attr}
 use Rattle.jv_attr.specs.declared.attr.AttrBody.TheVariants as bodies
 use Rattle.jv_attr.specs.declared.attr.CodeAttr.{CodeAttr}
 use Rattle.jv_attr.specs.declared.owner.Owner.TheVariants as owner
-use Rattle.jv_attr.specs.AttrText.{is_code, IsAttr, HasFew, IsShort}
+use Rattle.jv_attr.specs.AttrText.{IsAttr, HasFew, IsShort}
 use Rattle.jv_names.specs.Spellings.{IsFieldName, IsMethodName, IsFieldDescriptor, IsMethodDescriptor}
 use Rattle.jv_read.specs.Reading.{◌>>=◌}
 use Rattle.jv_read.proofs.Fronts.{bind_some, given_as, bytes_eq_itself}

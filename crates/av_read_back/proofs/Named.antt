@@ -1,5 +1,5 @@
 -- Texts, classes and members that are put into a pool, and what instructions name.
-use Rattle.std.proofs.Common.{◌≡◌, ℕ, ◌<◌, ◌≤◌, Bool, true, false, ◌&&◌, List, [], ◌∷◌, ◌++◌, length, Option, Some, None, refl, sym, ap, subst, ◌∙◌, inl, inr, arith}
+use Rattle.std.proofs.Common.{◌≡◌, ℕ, ◌<◌, ◌≤◌, Bool, true, false, List, [], ◌∷◌, Option, Some, refl, ap, ◌∙◌, inl, inr}
 use Rattle.std.specs.Prelude.{option_and_then}
 use Rattle.std.specs.Option.{option_map_or}
 use Rattle.std.specs.List.{AllByRecursion}
@@ -18,17 +18,16 @@ use Rattle.jv_desc.specs.Texts.{desc_text, method_text, words_of, item_text, pri
 use Rattle.jv_pool.specs.declared.item.PoolItem.{PoolItem}
 use Rattle.jv_pool.specs.declared.item.PoolItem.TheVariants as items
 use Rattle.jv_pool.specs.Lookups.{item_at, names, is_utf8, is_class, is_name_and_type, text_in, text_at, class_name_in, class_name_at}
-use Rattle.jv_pool.specs.PoolText.{is_linked}
 use Rattle.jv_names.specs.Naming.{type_text}
-use Rattle.jv_names.specs.Spellings.{IsClassName, IsFieldName, IsCalledName, IsFieldDescriptor, IsTypeName, IsMethodDescriptor}
-use Rattle.jv_names.specs.PoolNames.{HasText, HasClassName, HasNames}
+use Rattle.jv_names.specs.Spellings.{IsFieldName, IsCalledName, IsFieldDescriptor, IsTypeName, IsMethodDescriptor}
+use Rattle.jv_names.specs.PoolNames.{HasText, HasNames}
 use Rattle.jv_read.specs.Reading.{◌>>=◌}
 use Rattle.jv_read.proofs.Fronts.{bind_some, given_as}
 use Rattle.jv_insn.specs.declared.entries.MemberKind.{MemberKind}
 use Rattle.jv_insn.specs.declared.entries.MemberKind.TheVariants as kinds
 use Rattle.jv_insn.specs.Entries.{member_item, method_kind, entry_of, put_item, put_class, put_pair, put_member, put_named, put_all, Grows}
-use Rattle.av_read_back.specs.Fileable.{FitsPool, IsFiledName, MayNameType, MayNameField, MayNameMethod, MayName}
-use Rattle.av_read_back.proofs.Pools.{later, text_more, names_more, names_later, text_later, class_more, has_text_later, has_names_later, IsFilePool, Grown, grown_not, grown_on, MayJoin, IsJoined, item_joins}
+use Rattle.av_read_back.specs.Fileable.{FitsPool, MayNameType, MayNameField, MayNameMethod, MayName}
+use Rattle.av_read_back.proofs.Pools.{later, names_later, text_later, class_more, IsFilePool, Grown, grown_not, grown_on, MayJoin, item_joins}
 
 -- ---- texts
 

@@ -1,5 +1,5 @@
 -- The offsets, frames and instructions of a code that may be filed.
-use Rattle.std.proofs.Common.{◌≡◌, ℕ, zero, suc, ◌+◌, ◌<◌, ◌≤◌, Bool, true, false, cond, eqb, List, [], ◌∷◌, ◌++◌, length, map, Contains, Option, Some, None, refl, sym, ap, subst, ◌∙◌, arith}
+use Rattle.std.proofs.Common.{◌≡◌, ℕ, zero, suc, ◌+◌, ◌≤◌, Bool, true, false, cond, eqb, List, [], ◌∷◌, ◌++◌, length, map, Contains, Some, refl, sym, ap, subst, ◌∙◌, arith}
 use Rattle.std.specs.List.{AllByRecursion, zip, filter}
 use Rattle.std.proofs.lemmas.Bool.{false≢true}
 use Rattle.std.proofs.lemmas.Bool.Decides.{nat_tests}
@@ -7,11 +7,10 @@ use Rattle.std.proofs.lemmas.List.Elements.{recursion_from_All}
 use Rattle.jv_lists.proofs.Among.{is_first, is_later}
 use Rattle.jv_types.specs.Bodies.{at_offset}
 use Rattle.jv_types.specs.declared.instruction.Insn.{Insn}
-use Rattle.jv_types.specs.declared.frames.VType.{VType, Top, Uninit}
+use Rattle.jv_types.specs.declared.frames.VType.{VType, Top}
 use Rattle.jv_types.specs.declared.frames.Frame.{Frame}
 use Rattle.jv_insn.specs.Layouts.{head_text}
 use Rattle.jv_insn.specs.Encoding.{form_of, arg_size}
-use Rattle.jv_frames.specs.Types.{in_words, padded}
 use Rattle.jv_frames.specs.Maps.{IsMade}
 use Rattle.av_asm.specs.declared.step.Step.{Step}
 use Rattle.av_asm.specs.declared.step.Step.TheVariants.{Put, Open, Landed}

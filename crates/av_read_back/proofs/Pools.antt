@@ -12,7 +12,7 @@ use Rattle.jv_pool.specs.declared.item.PoolItem.{PoolItem}
 use Rattle.jv_pool.specs.declared.item.PoolItem.TheVariants as items
 use Rattle.jv_pool.specs.Lookups.{item_at, names, text_in, text_at, class_name_in, class_name_at}
 use Rattle.jv_pool.specs.PoolText.{IsItem, IsPool, IsShort, is_hole, is_wide, is_linked}
-use Rattle.jv_pool.specs.Adding.{slots_of, place_of}
+use Rattle.jv_pool.specs.Adding.{slots_of}
 use Rattle.jv_pool.proofs.AddingLaws.{item_at-suc, place_found}
 use Rattle.jv_names.specs.PoolNames.{HasText, HasClassName, HasNames, IsNamedItem, IsNamedPool}
 use Rattle.jv_read.proofs.Fronts.{given_as, past_true}

@@ -1,30 +1,24 @@
 -- Types of a map and its frames, as they are put.
-use Rattle.std.proofs.Common.{◌≡◌, ℕ, suc, ◌+◌, ◌*◌, ◌-◌, ◌<◌, ◌≤◌, Bool, true, false, not, cond, eqb, List, [], ◌∷◌, ◌++◌, length, Option, Some, None, refl, sym, ap, subst, ◌∙◌, length-append, arith}
+use Rattle.std.proofs.Common.{◌≡◌, ℕ, ◌*◌, ◌<◌, ◌≤◌, Bool, true, false, not, eqb, List, [], ◌∷◌, length, Option, Some, None, refl, sym, ap, subst, length-append, arith}
 use Rattle.std.specs.Prelude.{◌||◌}
-use Rattle.std.specs.List.{AllByRecursion, AllZip, flat_map}
+use Rattle.std.specs.List.{AllByRecursion}
 use Rattle.std.proofs.lemmas.Slice.Zip.{AllZip-long}
 use Rattle.jv_bytes.proofs.NumberLaws.{length-number_text}
 use Rattle.jv_types.specs.declared.frames.VType.{VType, Top, Integer, Float, Long, Double, Null, UninitThis, Uninit, Class, PrimArray, Array'}
-use Rattle.jv_types.specs.declared.frames.Frame.{Frame}
-use Rattle.jv_types.specs.declared.instruction.Insn.{Insn}
-use Rattle.jv_desc.specs.Texts.{IsRef}
 use Rattle.jv_pool.specs.declared.item.PoolItem.{PoolItem}
 use Rattle.jv_pool.specs.Lookups.{names, is_class}
-use Rattle.jv_pool.specs.PoolText.{u2}
 use Rattle.jv_attr.specs.declared.frame.MapType.{MapType}
 use Rattle.jv_attr.specs.FrameText.{has_arg, type_arg_text, type_text, IsArg, is_typed, IsType, types_text}
-use Rattle.jv_names.specs.Naming.{type_text as ref_name}
 use Rattle.jv_names.specs.Spellings.{IsTypeName}
-use Rattle.jv_read.specs.Reading.{◌>>=◌}
 use Rattle.jv_read.proofs.Fronts.{bind_some, given_as}
 use Rattle.jv_frames.specs.Types.{is_object}
 use Rattle.jv_insn.specs.Entries.{put_class, Grows}
 use Rattle.av_asm.specs.Mapping.{put_each, object_text, IsMapped, map_type, put_object, put_type}
 use Rattle.av_asm.proofs.RefTypes.{object_text-vtype}
-use Rattle.av_read_back.specs.Fileable.{FitsPool, MayStandInMap}
+use Rattle.av_read_back.specs.Fileable.{MayStandInMap}
 use Rattle.av_read_back.proofs.Pools.{names_later, IsFilePool, Grown, grown_not}
 use Rattle.av_read_back.proofs.Named.{class_put, type_name}
-use Rattle.av_read_back.proofs.Each.{zip_second, IsOnePut, AreEachPut, each_put}
+use Rattle.av_read_back.proofs.Each.{zip_second, IsOnePut, each_put}
 
 -- ---- tags
 

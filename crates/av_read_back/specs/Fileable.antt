@@ -1,5 +1,5 @@
 -- What a class of a stand-in must have so that its file is a class (JVMS 4).
-use Rattle.std.specs.Prelude.{◌≡◌, ◌<◌, ◌≤◌, ◌^◌, ◌||◌, ⊤, ℕ, true, false, not, List, length, Option, Some, IfSome, FitsSigned, Contains, slice_get}
+use Rattle.std.specs.Prelude.{◌≡◌, ◌<◌, ◌≤◌, ◌^◌, ◌||◌, ⊤, ℕ, true, false, not, List, length, Some, IfSome, FitsSigned, Contains, slice_get}
 use Rattle.std.specs.Int.{w32, w64}
 use Rattle.std.specs.List.{AllByRecursion}
 use Rattle.std.specs.Option.{is_some}
@@ -20,9 +20,9 @@ use Rattle.jv_names.specs.Spellings.{IsClassName, IsFieldName, IsCalledName}
 use Rattle.jv_frames.specs.Types.{is_object}
 use Rattle.jv_class.specs.ClassTexts.{has_flag}
 use Rattle.av_asm.specs.declared.step.Step.{Step}
-use Rattle.av_asm.specs.declared.step.Step.TheVariants.{Put, Open, Landed}
+use Rattle.av_asm.specs.declared.step.Step.TheVariants.{Put}
 use Rattle.av_asm.specs.Mapping.{object_text}
-use Rattle.av_standin_of.specs.Names.{field_key, method_key}
+use Rattle.av_standin_of.specs.Names.{field_key}
 use Rattle.av_standin_of.specs.Codes.{Row, Code}
 use Rattle.av_standin_of.specs.Classes.{MadeMethod, MadeClass, made_key}
 use Rattle.av_sketches.specs.Conditions.{IsFinishable, HasFieldForm, HasMethodForm}
