@@ -1,27 +1,24 @@
 -- The items of a package have codes of items that fit.
-use Rattle.std.proofs.Common.{◌≡◌, ℕ, ◌+◌, ◌≤◌, Bool, true, false, List, [], ◌∷◌, ◌++◌, map, Some, Contains, refl, sym, ap, subst, arith}
+use Rattle.std.proofs.Common.{◌≡◌, ℕ, ◌+◌, ◌≤◌, Bool, true, false, List, [], ◌∷◌, ◌++◌, map, Some, Contains, refl, sym, ap, subst}
 use Rattle.std.specs.Prelude.{if◌then◌else◌, codes}
-use Rattle.std.specs.Fmt.{decimal}
 use Rattle.std.specs.List.{flat_map, AllByRecursion}
 use Rattle.std.specs.Str.{bytes_eq}
 use Rattle.jv_lists.proofs.Among.{is_first, is_later}
 use Rattle.jv_types.specs.declared.desc.Desc.{Desc}
 use Rattle.jv_types.specs.declared.desc.Desc.TheVariants as descs
-use Rattle.jv_types.specs.declared.desc.PrimType.{PrimType}
 use Rattle.jv_types.specs.declared.shapes.FieldShape.{FieldShape}
 use Rattle.jv_types.specs.declared.shapes.MethodShape.{MethodShape}
 use Rattle.jv_types.specs.declared.shapes.Shape.{Shape}
 use Rattle.jv_desc.specs.Texts.{IsDesc}
 use Rattle.jv_names.specs.Spellings.{IsClassName}
-use Rattle.av_conditions.specs.CoreClasses.{void_desc}
 use Rattle.av_conditions.specs.StandIn.{any_name}
 use Rattle.av_standin_of.specs.Codes.{Code}
-use Rattle.av_standin_of.specs.Items.{make_item, arrays_item, prim_arrays_item, call_item, field_item, items_of_field, prims_in_order, elements_item, finalize_item, core_items}
-use Rattle.av_standin_of.specs.Classes.{access, method, is_interface, is_final, made_name, making_items, IsCalled, AreItemsOf, AreItemsOfAll, IsInPackage, more_items, AreItems, item_methods}
+use Rattle.av_standin_of.specs.Items.{make_item, arrays_item, prim_arrays_item, call_item, items_of_field, prims_in_order, elements_item, finalize_item, core_items}
+use Rattle.av_standin_of.specs.Classes.{is_interface, is_final, made_name, making_items, IsCalled, AreItemsOf, AreItemsOfAll, more_items, AreItems, item_methods}
 use Rattle.av_sketches.specs.declared.sketch.Item.{Item}
 use Rattle.av_sketches.specs.declared.sketch.Item.TheVariants as items
 use Rattle.av_sketches.specs.declared.sketch.Recipe.TheVariants as recipes
-use Rattle.av_sketches.specs.Conditions.{ItemFits, HasFieldForm, HasClassForm}
+use Rattle.av_sketches.specs.Conditions.{ItemFits, HasClassForm}
 use Rattle.av_sketches.specs.Sketches.{item_code}
 use Rattle.av_fit_codes.proofs.Rows.{all_both}
 use Rattle.av_finishable.proofs.Recipes.{FitsRecipe, any_is_name, instance_few}

@@ -1,7 +1,7 @@
 -- The methods of a stand-in's classes, but for items, have codes of recipes that fit.
-use Rattle.std.proofs.Common.{◌≡◌, ℕ, ◌==◌, ◌≤◌, Bool, true, false, not, cond, ◌&&◌, eqb, List, [], ◌∷◌, ◌++◌, Option, Some, Contains, refl, sym, ap, subst, ◌∙◌, arith}
+use Rattle.std.proofs.Common.{◌≡◌, ℕ, ◌==◌, ◌≤◌, Bool, true, false, not, cond, ◌&&◌, eqb, List, [], ◌∷◌, Option, Some, Contains, refl, sym, ap, subst, ◌∙◌, arith}
 use Rattle.std.specs.Prelude.{IfSome, bit_and}
-use Rattle.std.proofs.lemmas.Bool.{eqb-true, ne_eqb}
+use Rattle.std.proofs.lemmas.Bool.{ne_eqb}
 use Rattle.std.proofs.lemmas.Nat.{and_assoc}
 use Rattle.jv_lists.proofs.Places.{among_at}
 use Rattle.jv_types.specs.NameForms.{may_stand, goes_on}
@@ -12,14 +12,13 @@ use Rattle.jv_types.specs.declared.shapes.Shape.{Shape}
 use Rattle.jv_desc.specs.Texts.{words_of, IsMethodDesc}
 use Rattle.jv_names.specs.Spellings.{IsClassName}
 use Rattle.jv_resolve.specs.Members.{IsMethod, IsMethodCalled, IsStatic}
-use Rattle.jv_frames.specs.Entry.{is_static}
 use Rattle.av_conditions.specs.StandIn.{any_name}
 use Rattle.av_standin_of.specs.Codes.{Code}
 use Rattle.av_standin_of.specs.Templates.{words_in}
 use Rattle.av_standin_of.specs.Classes.{MadeMethod, kept_method, extra_method, any_method, IsMethodOf, IsMethodOfAny, IsAwaited}
 use Rattle.av_sketches.specs.declared.sketch.Recipe.{Recipe}
 use Rattle.av_sketches.specs.declared.sketch.Recipe.TheVariants as recipes
-use Rattle.av_sketches.specs.Conditions.{HasFormedDesc, MakesInstances, RecipeFits, IsFinishable, HasMethodForm, HasClassForm}
+use Rattle.av_sketches.specs.Conditions.{MakesInstances, RecipeFits, IsFinishable, HasMethodForm, HasClassForm}
 use Rattle.av_sketches.specs.Sketches.{recipe_code}
 use Rattle.av_fit_codes.proofs.Recipes.{recipe_finishable}
 

@@ -1,5 +1,5 @@
 -- Each code of a stand-in's classes may be put and finished.
-use Rattle.std.proofs.Common.{◌≡◌, ℕ, List, [], Some, Contains, refl, sym, subst}
+use Rattle.std.proofs.Common.{ℕ, List, Contains, sym, subst}
 use Rattle.jv_lists.proofs.Among.{none_there, of_each}
 use Rattle.jv_lists.proofs.Places.{among_at}
 use Rattle.jv_types.specs.declared.shapes.Shape.{Shape}
@@ -7,7 +7,7 @@ use Rattle.jv_world.specs.Worlds.{IsWorld}
 use Rattle.jv_resolve.specs.Packages.{package_of}
 use Rattle.av_conditions.specs.StandIn.{any_name}
 use Rattle.av_standin_of.specs.Names.{part_name}
-use Rattle.av_standin_of.specs.Classes.{MadeMethod, MadeClass, IsCollectedClass, IsOfCollected, IsOfAny, IsOfPackage, item_methods, IsStandinClass}
+use Rattle.av_standin_of.specs.Classes.{MadeMethod, MadeClass, IsOfPackage, item_methods, IsStandinClass}
 use Rattle.av_sketches.specs.Conditions.{HasFinishableCodes, CanStandIn}
 use Rattle.av_finishable.proofs.Recipes.{FitsRecipe, recipe_is_finishable, of_collected, of_any}
 use Rattle.av_finishable.proofs.Items.{of_package, items_fit}
