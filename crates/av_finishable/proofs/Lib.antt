@@ -1,0 +1,4 @@
+pub mod FewWords
+pub mod Recipes
+pub mod Items
+pub mod Standins
