@@ -112,14 +112,14 @@ pub record Front : Type 0 where
   pub interfaces : List ℕ
   pub fields : List Member
 
-abbrev pub heads_of : ℕ → ℕ → List ℕ → List Member → Front
-heads_of this super interfaces fields = record { this_class = this; super_class = super; interfaces = interfaces; fields = fields }
+abbrev pub front_of : ℕ → ℕ → List ℕ → List Member → Front
+front_of this super interfaces fields = record { this_class = this; super_class = super; interfaces = interfaces; fields = fields }
 
 -- what a class of this name, superclass, interfaces and fields names before its methods
-abbrev pub put_heads : List ℕ → Option (List ℕ) → List (List ℕ) → List FieldShape → List PoolItem → Option (Front × List PoolItem)
-put_heads name parent interfaces fields pool = do
+abbrev pub put_front : List ℕ → Option (List ℕ) → List (List ℕ) → List FieldShape → List PoolItem → Option (Front × List PoolItem)
+put_front name parent interfaces fields pool = do
   this ← put_class name pool
   super ← put_parent parent this.1
   indices ← put_each put_class interfaces super.1
   members ← put_each put_field fields indices.1
-  Some (heads_of this.0 super.0 indices.0 members.0, members.1)
+  Some (front_of this.0 super.0 indices.0 members.0, members.1)

@@ -5,7 +5,7 @@ ghost use Rattle.av_standin_of.specs.Files.{class_file};
 ghost use Rattle.av_standin_of.specs.Worlds.{coded_method, IsBodyOf};
 ghost use Rattle.av_sketches.specs.Sketches.{made_class};
 ghost use Rattle.av_class_files.specs.Filing.{IsThere, MayBeFiled};
-ghost use Rattle.av_class_files.specs.Steps.{heads_of, put_heads, HasClass, PutsTo};
+ghost use Rattle.av_class_files.specs.Steps.{front_of, put_front, HasClass, PutsTo};
 
 use crate::codes::Owner;
 use crate::entries::{add_class, add_parent};
@@ -28,7 +28,7 @@ pub struct Filed {
 
 /// What stands in a class file before its methods.
 #[derive(Debug, Drop)]
-struct Heads {
+struct Front {
     this_class: u16,
     super_class: u16,
     interfaces: Vec<u16>,
@@ -48,14 +48,14 @@ fn class_of(world: &World, name: &Name) -> ClassId
 }
 
 /// Adds what a class names before its methods: itself, its superclass and interfaces, and its fields (JVMS 4.1).
-fn add_heads(alloc: Global, pool: &mut PoolWriter, sketch: &Sketch) -> Result<Heads, FileRefusal>
-    ensures { PutsTo (λ made. heads_of made.this_class made.super_class made.interfaces.items made.fields.items) result pool.new (put_heads sketch.now.name sketch.now.parent sketch.now.interfaces sketch.now.fields pool.old) }
+fn add_front(alloc: Global, pool: &mut PoolWriter, sketch: &Sketch) -> Result<Front, FileRefusal>
+    ensures { PutsTo (λ made. front_of made.this_class made.super_class made.interfaces.items made.fields.items) result pool.new (put_front sketch.now.name sketch.now.parent sketch.now.interfaces sketch.now.fields pool.old) }
 {
     let this_class = add_class(pool, &sketch.name)?;
     let super_class = add_parent(pool, &sketch.parent)?;
     let interfaces = add_interfaces(alloc, pool, sketch.interfaces.as_slice())?;
     let fields = add_fields(alloc, pool, sketch.fields.as_slice())?;
-    Ok(Heads {
+    Ok(Front {
         this_class,
         super_class,
         interfaces,
@@ -84,7 +84,7 @@ pub fn file_of(
         dims,
     };
     let mut pool = PoolWriter::new(alloc);
-    let heads = add_heads(alloc, &mut pool, sketch)?;
+    let front = add_front(alloc, &mut pool, sketch)?;
     let methods = add_methods(&owner, &mut pool, sketch.methods.as_slice())?;
     Ok(Filed {
         class: ClassFile {
@@ -92,10 +92,10 @@ pub fn file_of(
             major: 52,
             pool: pool.done(),
             access: sketch.flags.0,
-            this_class: heads.this_class,
-            super_class: heads.super_class,
-            interfaces: Seq::from_vec(heads.interfaces),
-            fields: Seq::from_vec(heads.fields),
+            this_class: front.this_class,
+            super_class: front.super_class,
+            interfaces: Seq::from_vec(front.interfaces),
+            fields: Seq::from_vec(front.fields),
             methods: Seq::from_vec(methods.members),
             attrs: Seq::new(alloc),
         },

@@ -1,4 +1,3 @@
-ghost use Rattle.std.specs.Prelude.{◌≡◌};
 ghost use Rattle.jv_insn.specs.Entries.{put_class};
 ghost use Rattle.av_asm.specs.Mapping.{put_each};
 ghost use Rattle.av_standin_of.specs.Files.{put_field};

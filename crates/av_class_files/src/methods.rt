@@ -1,4 +1,4 @@
-ghost use Rattle.std.specs.Prelude.{◌≡◌, map, IfOk};
+ghost use Rattle.std.specs.Prelude.{map, IfOk};
 ghost use Rattle.std.specs.List.{AllZip, flat_map};
 ghost use Rattle.jv_world.specs.Worlds.{IsNamed};
 ghost use Rattle.av_asm.specs.Mapping.{put_each};
