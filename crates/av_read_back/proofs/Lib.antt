@@ -9,3 +9,4 @@ pub mod Codes
 pub mod Stays
 pub mod Members
 pub mod Classes
+pub mod Holder

@@ -4,4 +4,4 @@
 
 mod laws;
 
-pub use laws::files_are_classes;
+pub use laws::{files_are_classes, library_class_is_fileable};
