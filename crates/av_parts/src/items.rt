@@ -49,7 +49,7 @@ fn items_of(class: &Shape) -> Result<Vec<Item>, AllocError>
     let mut items = making(class)?;
     let mut calls = calls_of(class, methods.into_vec())?;
     let mut uses = uses_of(class, fields.into_vec())?;
-    items.append(&mut calls)?;
+    uses.append(&mut calls)?;
     items.append(&mut uses)?;
     Ok(items)
 }
