@@ -1,0 +1,23 @@
+use Rattle.std.proofs.Common.{[], get_or}
+use Rattle.std.proofs.lemmas.List.{get_or_default}
+use Rattle.std.proofs.lemmas.List.Elements.{Contains-get_or}
+use Rattle.jv_resolve.proofs.MembersLemmas.{no_class}
+use Rattle.av_named.specs.Appending.{OfEach}
+use Rattle.av_named.proofs.Appending.{appends_all, each_all, each_more}
+use Rattle.av_any_classes.specs.Steps.{IsBarredIn}
+use Rattle.av_any_classes.proofs.barred.barred_methods.Goals as goal
+
+pub add_barred_of-requires-clause-d_here : goal.add_barred_of-requires-clause-d_here
+add_barred_of-requires-clause-d_here c =
+    c.requires.line_here (get_or c.args.line.now c.loop-d.d-index no_class) (Contains-get_or c.args.line.now c.loop-d.d-index no_class c.loop-d-test.true)
+
+pub loop-d-preserved : goal.loop-d-preserved
+loop-d-preserved c =
+    let d = get_or c.args.line.now c.loop-d.d-index no_class in
+    each_more (IsBarredIn c.args.world.now c.args.c.number) c.args.line.now c.loop-d.d-index d [] c.loop-d.found.items c.add_barred_of.new.out.items
+    c.loop-d-test.true (get_or_default c.args.line.now c.loop-d.d-index no_class d c.loop-d-test.true) c.loop-d.invariant c.in_ok-add_barred_of.ensures
+
+pub returns : goal.returns
+returns c =
+    appends_all (OfEach (IsBarredIn c.args.world.now c.args.c.number) c.args.line.now) c.loop-d.found.items
+    (each_all (IsBarredIn c.args.world.now c.args.c.number) c.args.line.now c.loop-d.d-index [] c.loop-d.found.items c.loop-d-test.false c.loop-d.invariant)
