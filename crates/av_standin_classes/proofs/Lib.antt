@@ -1,0 +1,4 @@
+pub mod Covered
+pub mod Folders
+pub mod Gathered
+pub mod Ranked
