@@ -5,6 +5,7 @@ use Rattle.std.specs.Cmp.Lexicographic.{pointwise, bytes_decides}
 use Rattle.std.proofs.lemmas.Bool.{and_parts, and_from, not_from_false}
 use Rattle.std.proofs.lemmas.List.{take-append-drop}
 use Rattle.std.proofs.Math.Seq.{take-append_seam, drop-append_seam}
+use Rattle.jv_lists.proofs.Among.{mapped_from, mapped_to}
 use Rattle.jv_types.specs.declared.shapes.Shape.{Shape}
 use Rattle.jv_host.specs.declared.host.HostFile.{HostFile}
 use Rattle.jv_host.specs.Files.{bytes_of, class_names, is_class_under}
@@ -13,7 +14,7 @@ use Rattle.av_collected.specs.Libraries.{LibraryFile, IsLibrary, IsLibraryShape,
 use Rattle.av_app_files.specs.Folders.{is_module_info, file_of}
 use Rattle.av_stops.specs.LibraryFolders.{HasBytes, IsWorth, IsLibraryIn}
 use Rattle.av_library.specs.Told.{class_of, entry, library_in, worth}
-use Rattle.av_library.proofs.Members.{mapped_from, mapped_to, picked_from, picked_to}
+use Rattle.av_library.proofs.Members.{picked_from, picked_to}
 use Rattle.av_library.proofs.Shapes.{library_shape}
 use Rattle.av_library.proofs.Worths.{worth_is}
 

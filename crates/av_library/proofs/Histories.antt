@@ -2,6 +2,7 @@
 use Rattle.std.proofs.Common.{◌≡◌, ℕ, Bool, true, false, List, [], ◌∷◌, ◌++◌, map, filter, Option, Some, None, option_map, is_ok, IfSome, Contains, Result, Ok, Err, if◌then◌else◌, refl, sym, ap, subst, ◌∙◌, append_assoc, append-nil}
 use Rattle.std.proofs.lemmas.List.{map-append}
 use Rattle.std.proofs.lemmas.List.Elements.{filter-append}
+use Rattle.jv_lists.proofs.Among.{mapped_from, mapped_to}
 use Rattle.jv_host.specs.declared.host.HostCall.{HostCall}
 use Rattle.jv_host.specs.declared.host.HostFault.{HostFault}
 use Rattle.jv_host.specs.declared.host.HostFault.TheVariants as faults
@@ -10,7 +11,7 @@ use Rattle.av_collected.specs.declared.found.ShapeFound.{ShapeFound}
 use Rattle.av_collected.specs.Sources.{answered_after}
 use Rattle.av_library.specs.declared.history.Asked.{Asked}
 use Rattle.av_library.specs.History.{IsReadOf, answered_in, asked_in, calls_with, failed_after, failed_in, failed_with, is_answered, is_failed, is_read, later_or, read_of, read_or, reads_in}
-use Rattle.av_library.proofs.Members.{mapped_from, mapped_to, picked_from}
+use Rattle.av_library.proofs.Members.{picked_from}
 
 abbrev Calls : Type 0
 Calls = List (List ℕ × Asked)

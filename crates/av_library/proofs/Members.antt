@@ -1,25 +1,7 @@
--- What a list has that is picked or made from another one.
-use Rattle.std.proofs.Common.{◌≡◌, ◌⊎◌, inl, inr, Bool, true, false, cond, List, [], ◌∷◌, map, filter, length, Contains, refl, sym, ap, subst, ◌∙◌, arith}
+-- What a list has that is picked from another one, or in a relation to it.
+use Rattle.std.proofs.Common.{◌≡◌, ◌⊎◌, inl, inr, Bool, true, false, cond, List, [], ◌∷◌, filter, Contains, refl, sym, ap, subst, ◌∙◌}
 use Rattle.std.specs.List.{AllZip}
 use Rattle.av_collected.proofs.Lists.{in_head, in_tail, of_cons, in_none}
-
--- ---- mapped
-
-mapped_in : {X Y : Type 0} (f : X → Y) (x : X) (xs : List X) (y : Y) → (f x ≡ y) ⊎ Contains (map f xs) y → (Contains (map f xs) y → (z : X) × Contains xs z × (f z ≡ y)) → (z : X) × Contains (x ∷ xs) z × (f z ≡ y)
-mapped_in f x xs y (inl is) rest = (x, in_head x xs, is)
-mapped_in f x xs y (inr h) rest = let w = rest h in (w.0, in_tail x xs w.0 w.1, w.2)
-
-pub mapped_from : {X Y : Type 0} (f : X → Y) (xs : List X) (y : Y) → Contains (map f xs) y → (x : X) × Contains xs x × (f x ≡ y)
-mapped_from f [] y h = absurd (in_none y h)
-mapped_from f (x ∷ xs) y h = mapped_in f x xs y (of_cons (f x) (map f xs) y h) (mapped_from f xs y)
-
-mapped_at : {X Y : Type 0} (f : X → Y) (x z : X) (xs : List X) → (x ≡ z) ⊎ Contains xs z → (Contains xs z → Contains (map f xs) (f z)) → Contains (map f (x ∷ xs)) (f z)
-mapped_at f x z xs (inl is) rest = subst (λ (w : _). Contains (f x ∷ map f xs) (f w)) is (in_head (f x) (map f xs))
-mapped_at f x z xs (inr h) rest = in_tail (f x) (map f xs) (f z) (rest h)
-
-pub mapped_to : {X Y : Type 0} (f : X → Y) (xs : List X) (x : X) → Contains xs x → Contains (map f xs) (f x)
-mapped_to f [] x h = absurd (in_none x h)
-mapped_to f (y ∷ xs) x h = mapped_at f y x xs (of_cons y xs x h) (mapped_to f xs x)
 
 -- ---- picked
 
@@ -46,12 +28,6 @@ picked_to p [] y passes h = absurd (in_none y h)
 picked_to p (x ∷ xs) y passes h = picked_at p x xs y (p x) refl passes (picked_to p xs y passes) (of_cons x xs y h)
 
 -- ---- element by element
-
-pub zip_length : {X Y : Type 0} (R : X → Y → Type 0) (xs : List X) (ys : List Y) → AllZip R xs ys → length ys ≡ length xs
-zip_length R [] [] h = refl
-zip_length R [] (y ∷ ys) h = absurd h
-zip_length R (x ∷ xs) [] h = absurd h
-zip_length R (x ∷ xs) (y ∷ ys) h = let e = zip_length R xs ys h.1 in omega arith
 
 zip_in : {X Y : Type 0} (R : X → Y → Type 0) (x : X) (y z : Y) (xs : List X) (ys : List Y) → R x y → (y ≡ z) ⊎ Contains ys z → (Contains ys z → (w : X) × R w z) → (w : X) × R w z
 zip_in {X} {Y} R x y z xs ys r (inl is) rest = (x, subst (λ (v : Y). R x v) is r)

@@ -1,6 +1,7 @@
 -- The shape that the file of a library class states is one that a library may have.
 use Rattle.std.proofs.Common.{◌≡◌, ◌≤◌, ◌⊎◌, inl, inr, ℕ, List, [], ◌∷◌, Contains, Option, Some, None, sym, subst, arith}
 use Rattle.std.specs.List.{AllByRecursion}
+use Rattle.std.proofs.lemmas.Slice.Zip.{AllZip-long}
 use Rattle.jv_types.specs.declared.desc.Desc.{Desc}
 use Rattle.jv_types.specs.declared.desc.Desc.TheVariants.{Prim, Ref}
 use Rattle.jv_types.specs.declared.desc.MethodDesc.{MethodDesc}
@@ -11,7 +12,7 @@ use Rattle.av_collected.specs.Libraries.{IsLibraryShape}
 use Rattle.av_collected.specs.Types.{IsPartOf, dims_of}
 use Rattle.av_collected.proofs.Lists.{of_cons, in_none}
 use Rattle.av_stops.specs.LibraryFolders.{IsClassOf}
-use Rattle.av_library.proofs.Members.{zip_length, zip_at}
+use Rattle.av_library.proofs.Members.{zip_at}
 
 desc_dims : (d : Desc) → IsDesc d → dims_of d ≤ 255
 desc_dims (Prim prim) h = omega arith
@@ -40,8 +41,8 @@ library_shape name bytes shape h =
       named = h.named;
       of_library = h.states.marked;
       bounded = record {
-        fields = let e = zip_length (IsFieldShape items) h.class.fields shape.fields h.states.fields in let few = h.text.few_parts.fields in omega arith;
-        methods = let e = zip_length (IsMethodShape items) h.class.methods shape.methods h.states.methods in let few = h.text.few_parts.methods in omega arith;
+        fields = let e = AllZip-long (IsFieldShape items) h.class.fields shape.fields h.states.fields in let few = h.text.few_parts.fields in omega arith;
+        methods = let e = AllZip-long (IsMethodShape items) h.class.methods shape.methods h.states.methods in let few = h.text.few_parts.methods in omega arith;
         field_dims = λ field among. let of = zip_at (IsFieldShape items) h.class.fields shape.fields field h.states.fields among in desc_dims field.desc of.1.desc.kind.valid;
         method_dims = λ method dims among mentions.
             let of = zip_at (IsMethodShape items) h.class.methods shape.methods method h.states.methods among in
