@@ -2,6 +2,7 @@
 use Rattle.std.proofs.Common.{◌≡◌, ℕ, ◌⊎◌, inl, inr, List, [], ◌∷◌, Option, None, Some, Result, Err, map, Contains, refl, sym, ap, ◌∙◌, subst}
 use Rattle.std.specs.Result.{IsErrAnd}
 use Rattle.std.proofs.lemmas.Result.{err_from_is_err_and}
+use Rattle.jv_lists.proofs.Among.{mapped_from, mapped_to}
 use Rattle.jv_types.specs.declared.shapes.Shape.{Shape}
 use Rattle.jv_world.specs.Worlds.{NamesSuper}
 use Rattle.av_collected.specs.declared.collected.Collected.{Collected}
@@ -14,7 +15,6 @@ use Rattle.av_collected.specs.Rules.{ClassNamed, FieldAt, MethodAt, IsCollected}
 use Rattle.av_collected.proofs.Lists.{in_head, in_tail, of_cons, in_none, same_name}
 use Rattle.av_named.specs.Named.{ShapeNames}
 use Rattle.av_refused.specs.Firsts.{HasNone, HasUnfit, IsFirst, NamesOne, NoneOf, item_name, shape_name}
-use Rattle.av_refused.proofs.First.{mapped_in, mapped_back}
 use Rattle.av_round.specs.declared.class_items.ClassItems.{ClassItems}
 use Rattle.av_round.specs.Listing.{AreItems}
 use Rattle.av_closure.specs.Steps.{AnswersOver, AreShapes, HaveShapes}
@@ -90,7 +90,7 @@ module _ (given : Application) (part : List LibraryFile) (library : IsLibrary pa
         collected = (items.exact (ClassNamed class.name)).1 (class, h.of_classes, refl)
 
         of_own : IsOfApplication given.shapes n.0
-        of_own = mapped_back shape_name given.shapes n.0 n.2
+        of_own = mapped_from shape_name given.shapes n.0 n.2
 
         by : ShapeNames y n.0 → NamesApplication given part class.name
         by (inl super) = as_super x n.0 collected h.is.has (super_same y x n.0 h.is.only.parent h.is.only.interfaces super) of_own
@@ -109,7 +109,7 @@ module _ (given : Application) (part : List LibraryFile) (library : IsLibrary pa
     found name other collected own_class names =
         let e = (items.exact (ClassNamed name)).0 collected in
         let t = of_class part classes full reduced shapes e.0 e.1 in
-        let listed : Contains (map shape_name given.shapes) other = subst (λ (n : List ℕ). Contains (map shape_name given.shapes) n) own_class.2 (mapped_in shape_name given.shapes own_class.0 own_class.1) in
+        let listed : Contains (map shape_name given.shapes) other = subst (λ (n : List ℕ). Contains (map shape_name given.shapes) n) own_class.2 (mapped_to shape_name given.shapes own_class.0 own_class.1) in
         (t.1, t.2.of_reduced, (other, names e.0 t.0 t.1 e.2 t.2, listed), t.2.is.only.name ∙ shape_named given part library e.0.name t.0 t.2.is.has ∙ e.2)
 
     back_apart : (name : List ℕ) → NamesApplication given part name → (y : Shape) × Contains reduced y × NamesOne (map shape_name given.shapes) y × (y.name ≡ name)

@@ -11,6 +11,7 @@ use Rattle.std.proofs.lemmas.Cmp.{nat_list_cmp_total}
 use Rattle.std.proofs.lemmas.Result.{err_from_is_err_and}
 use Rattle.std.proofs.lemmas.Map.Keys.{sorted_tail}
 use Rattle.std.proofs.lemmas.Map.Lookups.{exact_bytes}
+use Rattle.jv_lists.proofs.Among.{mapped_to}
 use Rattle.jv_types.specs.declared.quantity.Quantity.{Quantity}
 use Rattle.jv_types.specs.declared.quantity.Quantity.TheVariants.{Classes}
 use Rattle.jv_types.specs.declared.shapes.Shape.{Shape}
@@ -34,7 +35,6 @@ use Rattle.av_reading.specs.Progress.{IsCollectedOver, IsWhole, StopsFor, StopsF
 use Rattle.av_asked.specs.Sources.{SourceState, Moved, StopsAtLimit, StopsAtFault, StopsForMemory, Stops}
 use Rattle.av_reading.proofs.Lists.{no_more}
 use Rattle.av_refused.specs.Firsts.{file_name, item_name}
-use Rattle.av_refused.proofs.First.{mapped_in}
 use Rattle.av_closure.specs.Answered.{AreOverRead, OnFailed, UnlessFailed, WhereAnswered, WhereEnded}
 use Rattle.av_closure.specs.Steps.{AnswersOver}
 use Rattle.av_closure.proofs.NameLemmas.{name_below, not_below_itself}
@@ -251,7 +251,7 @@ module _ (laws : Laws) (given : Application) (is_given : AreGiven given) (known 
       let h = no_more m.names (map item_name classes) (distinct_rising m.names m.rising)
       (λ name there.
       let e = (whole.items.exact (ClassNamed name)).0 (back name (m.each name there)) in
-      subst (λ (n : List ℕ). Contains (map item_name classes) n) e.2 (mapped_in item_name classes e.0 e.1)) in
+      subst (λ (n : List ℕ). Contains (map item_name classes) n) e.2 (mapped_to item_name classes e.0 e.1)) in
       let same = same_length classes in
       absurd (omega (arith, h, same, m.more, whole.few))
 

@@ -8,6 +8,7 @@ use Rattle.std.proofs.lemmas.Cmp.{nat_list_cmp_total, tied_itself}
 use Rattle.std.proofs.lemmas.List.Elements.{Contains-append_right, Contains-append_cases}
 use Rattle.std.proofs.lemmas.Map.Keys.{sorted_tail}
 use Rattle.std.proofs.lemmas.Map.Views.{All-after_first}
+use Rattle.jv_lists.proofs.Among.{mapped_from, mapped_to}
 use Rattle.jv_types.specs.declared.shapes.Shape.{Shape}
 use Rattle.jv_world.specs.Refusals.{IsLeastName}
 use Rattle.jv_world.specs.Worlds.{HaveDistinctNames}
@@ -15,7 +16,6 @@ use Rattle.av_asked.specs.Asking.{AreDistinct}
 use Rattle.av_collected.specs.Answers.{AreRising, NoName}
 use Rattle.av_collected.proofs.Lists.{in_head, of_cons, in_none, apart_head, apart_tail}
 use Rattle.av_refused.specs.Firsts.{IsFirst, NoneOf, shape_name}
-use Rattle.av_refused.proofs.First.{mapped_back, mapped_in}
 
 abbrev pub cmp : List ℕ → List ℕ → Ordering
 cmp = slice_cmp nat_cmp
@@ -39,7 +39,7 @@ module _ {X : Type 0} (name_of : X → List ℕ) where
   one_name (x ∷ xs) rising a b ha hb same = by (one_name xs (sorted_tail cmp (name_of x) (map name_of xs) rising) a b) (of_cons x xs a ha) (of_cons x xs b hb)
     where
       later : (y : X) → Contains xs y → name_of x ≡ name_of y → ⊥
-      later y h is = not_below_itself (name_of x) (name_of y) (name_below (name_of x) (map name_of xs) rising (name_of y) (mapped_in name_of xs y h)) is
+      later y h is = not_below_itself (name_of x) (name_of y) (name_below (name_of x) (map name_of xs) rising (name_of y) (mapped_to name_of xs y h)) is
 
       by : (Contains xs a → Contains xs b → name_of a ≡ name_of b → a ≡ b) → (x ≡ a) ⊎ Contains xs a → (x ≡ b) ⊎ Contains xs b → a ≡ b
       by rest (inl p) (inl q) = sym p ∙ q
@@ -48,7 +48,7 @@ module _ {X : Type 0} (name_of : X → List ℕ) where
       by rest (inr p) (inr q) = rest p q same
 
   behind : (front : List X) (x : X) (back : List X) → AreRising (map name_of (front ++ x ∷ back)) → (y : X) → Contains back y → cmp (name_of x) (name_of y) ≡ Less
-  behind [] x back rising y h = name_below (name_of x) (map name_of back) rising (name_of y) (mapped_in name_of back y h)
+  behind [] x back rising y h = name_below (name_of x) (map name_of back) rising (name_of y) (mapped_to name_of back y h)
   behind (z ∷ front) x back rising y h = behind front x back (sorted_tail cmp (name_of z) (map name_of (front ++ x ∷ back)) rising) y h
 
   module _ (P : X → Type 0) (Q : List ℕ → Type 0) (xs : List X) (rising : AreRising (map name_of xs)) (into : (x : X) → Contains xs x → P x → Q (name_of x))
@@ -87,6 +87,6 @@ module _ {X : Type 0} (name_of : X → List ℕ) where
 pub names_apart : (shapes : List Shape) → HaveDistinctNames shapes → AreDistinct (map shape_name shapes)
 names_apart [] apart = tt
 names_apart (shape ∷ shapes) apart = (
-  λ h. let t = mapped_back shape_name shapes shape.name h in apart_head shape shapes apart t.0 t.1 t.2,
+  λ h. let t = mapped_from shape_name shapes shape.name h in apart_head shape shapes apart t.0 t.1 t.2,
   names_apart shapes (apart_tail shape shapes apart),
 )

@@ -1,6 +1,7 @@
 -- The file of a class by the place of its name, and what a class names.
 use Rattle.std.proofs.Common.{◌≡◌, ◌≢◌, ℕ, zero, suc, ◌<◌, ◌↔◌, Bool, IsTrue, List, [], ◌∷◌, Some, length, map, slice_get, slice_index_or, Contains, sym, ap, ◌∙◌, subst, arith}
 use Rattle.std.proofs.lemmas.Option.{none-some, same_Some}
+use Rattle.jv_lists.proofs.Among.{mapped_to}
 use Rattle.jv_types.specs.declared.shapes.Shape.{Shape}
 use Rattle.av_collected.specs.Answers.{IsUnfitFile}
 use Rattle.av_collected.specs.Libraries.{LibraryFile, HasFile, IsLibrary}
@@ -10,7 +11,6 @@ use Rattle.av_named.specs.Named.{ShapeNames}
 use Rattle.av_named.proofs.Appending.{appends_all}
 use Rattle.av_round.specs.declared.class_items.ClassItems.{ClassItems}
 use Rattle.av_refused.specs.Firsts.{HasUnfit, NamesOne, file_name}
-use Rattle.av_refused.proofs.First.{mapped_in}
 
 mapped_at : {X : Type 0} (name_of : X → List ℕ) (xs : List X) (k : ℕ) (x : X) → slice_get xs k ≡ Some x → slice_get (map name_of xs) k ≡ Some (name_of x)
 mapped_at name_of [] k x e = absurd (none-some x e)
@@ -25,7 +25,7 @@ mapped_within name_of (y ∷ xs) (suc k) name e = let below = mapped_within name
 module _ (files : List LibraryFile) (names : List (List ℕ)) (name : List ℕ) (all : names ≡ map file_name files) where
   pub no_file : ((place : ℕ) → slice_get names place ≢ Some name) → HasFile files name → ⊥
   no_file none h =
-      let there : Contains (map file_name files) h.0.name = mapped_in file_name files h.0 h.1 in
+      let there : Contains (map file_name files) h.0.name = mapped_to file_name files h.0 h.1 in
       none there.0 (ap (λ (l : List (List ℕ)). slice_get l there.0) all ∙ at_place (map file_name files) h.0.name there ∙ ap (λ (n : List ℕ). Some n) h.2)
 
   module _ (place : ℕ) (at : slice_get names place ≡ Some name) where

@@ -2,7 +2,8 @@
 use Rattle.std.proofs.Common.{◌≡◌, ℕ, zero, suc, ◌+◌, ◌<◌, ◌≤◌, ◌↔◌, inl, inr, Bool, true, false, IsTrue, List, [], ◌∷◌, ◌++◌, length, map, take, drop, get_or, Contains, sym, ap, ◌∙◌, subst, arith, take-append-drop, drop-cons}
 use Rattle.std.proofs.lemmas.List.{map_more, take_all, take_more}
 use Rattle.std.proofs.lemmas.List.Elements.{Contains-push_cases}
-use Rattle.av_collected.proofs.Lists.{in_head, in_tail, of_cons, in_none}
+use Rattle.jv_lists.proofs.Among.{mapped_to}
+use Rattle.av_collected.proofs.Lists.{of_cons, in_none}
 use Rattle.av_asked.specs.Asking.{AreDistinct}
 use Rattle.av_refused.specs.Firsts.{IsFirst, NoneOf}
 
@@ -36,20 +37,6 @@ module _ {X : Type 0} (P : X → Type 0) where
 
 -- ---- the names of a list
 
-pub mapped_in : {X : Type 0} (name_of : X → List ℕ) (xs : List X) (x : X) → Contains xs x → Contains (map name_of xs) (name_of x)
-mapped_in name_of [] x h = absurd (in_none x h)
-mapped_in {X} name_of (y ∷ xs) x h = elim (of_cons y xs x h) [
-  | inl same ↦ subst (λ (z : X). Contains (name_of y ∷ map name_of xs) (name_of z)) same (in_head (name_of y) (map name_of xs))
-  | inr there ↦ in_tail (name_of y) (map name_of xs) (name_of x) (mapped_in name_of xs x there)
-]
-
-pub mapped_back : {X : Type 0} (name_of : X → List ℕ) (xs : List X) (name : List ℕ) → Contains (map name_of xs) name → (x : X) × Contains xs x × (name_of x ≡ name)
-mapped_back name_of [] name h = absurd (in_none name h)
-mapped_back name_of (y ∷ xs) name h = elim (of_cons (name_of y) (map name_of xs) name h) [
-  | inl same ↦ (y, in_head y xs, same)
-  | inr there ↦ let t = mapped_back name_of xs name there in (t.0, in_tail y xs t.0 t.1, t.2)
-]
-
 -- the next name isn't one of those before it
 pub fresh_next : {X : Type 0} (name_of : X → List ℕ) (xs : List X) (k : ℕ) (x : X) → AreDistinct (map name_of xs) → k < length xs → x ≡ get_or xs k x → Contains (map name_of (take k xs)) (name_of x) → ⊥
 fresh_next name_of [] k x distinct within is h = absurd (omega (arith, within))
@@ -57,7 +44,7 @@ fresh_next name_of (y ∷ xs) zero x distinct within is h = in_none (name_of x) 
 fresh_next {X} name_of (y ∷ xs) (suc k) x distinct within is h = elim (of_cons (name_of y) (map name_of (take k xs)) (name_of x) h) [
   | inl same ↦
       let later : Contains xs x = (k, omega (arith, within), sym is) in
-      distinct.0 (subst (λ (n : List ℕ). Contains (map name_of xs) n) (sym same) (mapped_in name_of xs x later))
+      distinct.0 (subst (λ (n : List ℕ). Contains (map name_of xs) n) (sym same) (mapped_to name_of xs x later))
   | inr there ↦ fresh_next name_of xs k x distinct.1 (omega (arith, within)) is there
 ]
 
