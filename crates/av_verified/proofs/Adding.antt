@@ -1,83 +1,13 @@
--- Adding lines to a set: none, one line, and the lines of one after another.
-use Rattle.std.proofs.Common.{◌≡◌, ℕ, ◌+◌, ◌<◌, ◌≤◌, ◌⊎◌, ◌↔◌, true, false, List, [], ◌∷◌, length, get_or, take, Contains, sym, subst, ◌∙◌, inl, inr, ⊎_elim, arith}
-use Rattle.std.specs.Ordering.{nat_cmp}
-use Rattle.std.specs.Cmp.Lexicographic.{slice_cmp, nat_list_cmp_total}
-use Rattle.std.specs.BTreeMap.{is_at}
-use Rattle.std.specs.BTreeSet.{BTreeSet, IsOrdered, contains, Updates}
-use Rattle.std.proofs.lemmas.Bool.{cases_Bool, cond-true}
+-- Adding lines to a set: the lines of one after another.
+use Rattle.std.proofs.Common.{◌≡◌, ℕ, ◌+◌, ◌<◌, ◌≤◌, ◌⊎◌, true, List, [], ◌∷◌, length, get_or, take, Contains, sym, subst, ◌∙◌, inl, inr, ⊎_elim, arith}
 use Rattle.std.proofs.lemmas.List.{take_all, take_more}
 use Rattle.std.proofs.lemmas.List.Elements.{Contains-append_left, Contains-push, Contains-push_cases}
-use Rattle.std.proofs.lemmas.Map.Keys.{Less-from_sorted}
-use Rattle.std.proofs.lemmas.Map.Lookups.{exact_bytes}
-use Rattle.std.proofs.lemmas.Map.Views.{btree_set_contains_iff, tells_apart}
 use Rattle.jv_types.specs.declared.shapes.MethodShape.{MethodShape}
 use Rattle.jv_types.specs.declared.shapes.Shape.{Shape}
+use Rattle.calls_lines.specs.First.Adding.{AddsLines}
+use Rattle.calls_lines.proofs.Adding.{AddsLines-none, AddsLines-same, AddsLines-then}
 use Rattle.av_verified.specs.Lines.{AreVerifiedLines, IsClassLine, IsMethodLine, method_line}
-use Rattle.av_verified.specs.Steps.Adding.{AddsLines, IsLineOf}
-
--- nothing is added
-pub AddsLines-none : (P : List ℕ → Type 0) (lines : List (List ℕ)) → ((line : List ℕ) → P line → ⊥) → AddsLines P lines lines
-AddsLines-none P lines none = record {
-  sorted = λ h. h;
-  exact = λ line. (λ h. inl h, λ h. ⊎_elim (λ old. old) (λ new. absurd (none line new)) h);
-}
-
--- the same lines under another name
-pub AddsLines-same : (P Q : List ℕ → Type 0) (a b : List (List ℕ)) → ((line : List ℕ) → P line → Q line) → ((line : List ℕ) → Q line → P line)
-    → AddsLines P a b → AddsLines Q a b
-AddsLines-same P Q a b into from adds = record {
-  sorted = adds.sorted;
-  exact = λ line. (
-    λ h. ⊎_elim (λ old. inl old) (λ new. inr (into line new)) ((adds.exact line).0 h),
-    λ h. (adds.exact line).1 (⊎_elim (λ old. inl old) (λ new. inr (from line new)) h),
-  );
-}
-
--- some lines after others
-pub AddsLines-then : (P Q : List ℕ → Type 0) (a b c : List (List ℕ)) → AddsLines P a b → AddsLines Q b c → AddsLines (λ line. P line ⊎ Q line) a c
-AddsLines-then P Q a b c first second = record {
-  sorted = λ h. second.sorted (first.sorted h);
-  exact = λ line. (
-    λ h. ⊎_elim (λ mid. ⊎_elim (λ old. inl old) (λ x. inr (inl x)) ((first.exact line).0 mid)) (λ y. inr (inr y)) ((second.exact line).0 h),
-    λ h. ⊎_elim
-        (λ old. (second.exact line).1 (inl ((first.exact line).1 (inl old))))
-        (λ new. ⊎_elim (λ x. (second.exact line).1 (inl ((first.exact line).1 (inr x)))) (λ y. (second.exact line).1 (inr y)) new)
-        h,
-  );
-}
-
--- one line, as a set takes it
-module _ (old new : BTreeSet (List ℕ)) (key : List ℕ) (ordered : IsOrdered (slice_cmp nat_cmp) new) (updates : Updates (slice_cmp nat_cmp) old new key true) where
-  in_new : (line : List ℕ) → Contains new.keys line → contains (slice_cmp nat_cmp) new line ≡ true
-  in_new line h = (btree_set_contains_iff nat_list_cmp_total exact_bytes new line).1 h
-
-  in_old : (line : List ℕ) → Contains old.keys line → contains (slice_cmp nat_cmp) old line ≡ true
-  in_old line h = (btree_set_contains_iff nat_list_cmp_total exact_bytes old line).1 h
-
-  from_new : (line : List ℕ) → Contains new.keys line → Contains old.keys line ⊎ (line ≡ key)
-  from_new line h =
-      ⊎_elim
-      (λ (same : is_at (slice_cmp nat_cmp key) line ≡ true). inr (sym (tells_apart exact_bytes key line same)))
-      (λ (other : is_at (slice_cmp nat_cmp key) line ≡ false).
-      inl ((btree_set_contains_iff nat_list_cmp_total exact_bytes old line).0 (sym (updates.2 line other) ∙ in_new line h)))
-      (cases_Bool (is_at (slice_cmp nat_cmp key) line))
-
-  from_old : (line : List ℕ) → Contains old.keys line → Contains new.keys line
-  from_old line h =
-      (btree_set_contains_iff nat_list_cmp_total exact_bytes new line).0
-      (⊎_elim
-      (λ (same : is_at (slice_cmp nat_cmp key) line ≡ true). updates.0 line ∙ cond-true _ true _ same)
-      (λ (other : is_at (slice_cmp nat_cmp key) line ≡ false). updates.2 line other ∙ in_old line h)
-      (cases_Bool (is_at (slice_cmp nat_cmp key) line)))
-
-  has_key : Contains new.keys key
-  has_key = (btree_set_contains_iff nat_list_cmp_total exact_bytes new key).0 updates.1
-
-  pub AddsLines-insert : AddsLines (λ line. line ≡ key) old.keys new.keys
-  AddsLines-insert = record {
-    sorted = λ _ i j d before within. Less-from_sorted (slice_cmp nat_cmp) new.keys i j d ordered before within;
-    exact = λ line. (from_new line, λ h. ⊎_elim (λ old_line. from_old line old_line) (λ (same : line ≡ key). rw same has_key) h);
-  }
+use Rattle.av_verified.specs.Steps.Adding.{IsLineOf}
 
 module _ {X : Type 0} (P : X → List ℕ → Type 0) (items : List X) where
   -- none yet

@@ -1,6 +1,7 @@
 ghost use Rattle.std.specs.Prelude.{◌≡◌, IfOk, OnOk};
+ghost use Rattle.calls_lines.specs.First.Adding.{AddsLines};
 ghost use Rattle.av_verified.specs.Lines.{method_line, IsMethodLine, IsClassLine, AreVerifiedLines};
-ghost use Rattle.av_verified.specs.Steps.Adding.{AddsLines, IsLineOf};
+ghost use Rattle.av_verified.specs.Steps.Adding.{IsLineOf};
 
 use jv_bytes::shown;
 use jv_desc::show_method;

@@ -1,4 +1,4 @@
-use Rattle.av_verified.proofs.Adding.{AddsLines-insert}
+use Rattle.calls_lines.proofs.Adding.{AddsLines-insert}
 use Rattle.av_verified.proofs.lines.add_line.Goals as goal
 
 pub returns : goal.returns

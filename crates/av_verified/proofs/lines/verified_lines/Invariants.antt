@@ -1,6 +1,7 @@
 use Rattle.std.proofs.Common.{[], take}
+use Rattle.calls_lines.specs.First.Adding.{AddsLines}
 use Rattle.av_verified.specs.Lines.{IsClassLine}
-use Rattle.av_verified.specs.Steps.Adding.{AddsLines, IsLineOf}
+use Rattle.av_verified.specs.Steps.Adding.{IsLineOf}
 use Rattle.av_verified.proofs.lines.verified_lines.Given as goal
 
 -- the lines of the classes so far are added
