@@ -8,6 +8,7 @@ use Rattle.std.specs.declared.cmp.Ordering.TheVariants.{Less, Equal, Greater}
 use Rattle.std.specs.List.{AllZip}
 use Rattle.std.proofs.lemmas.Map.Lookups.{exact_bytes}
 use Rattle.std.proofs.lemmas.Option.{same_Some}
+use Rattle.jv_lists.proofs.Zips.{one_zip}
 use Rattle.jv_types.specs.declared.quantity.Quantity.{Quantity}
 use Rattle.jv_types.specs.declared.rule.Rule.{Rule}
 use Rattle.jv_types.specs.declared.shapes.FieldShape.{FieldShape}
@@ -25,7 +26,7 @@ use Rattle.av_stops.specs.CollectedRules.{FailsCollection, by_form, by_file, by_
 use Rattle.av_stops.specs.LibraryFolders.{HasLongFile, HasManyBytes, PassesLimit}
 use Rattle.av_one_application.specs.Same.{IsSameApplication, IsSameLibrary}
 use Rattle.av_one_application.proofs.Collecting.{back_application, back_library, moved_insn}
-use Rattle.av_one_application.proofs.Orders.{one_zip, same_sorted}
+use Rattle.av_one_application.proofs.Orders.{same_sorted}
 
 -- ---- least names
 

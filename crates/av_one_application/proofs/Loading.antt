@@ -3,11 +3,12 @@ use Rattle.std.proofs.Common.{◌≡◌, ℕ, List, subst}
 use Rattle.std.specs.Cmp.Lexicographic.{slice_cmp, nat_list_cmp_total}
 use Rattle.std.specs.Ordering.{nat_cmp}
 use Rattle.std.specs.List.{AllZip}
+use Rattle.jv_lists.proofs.Zips.{one_zip}
 use Rattle.jv_class.specs.declared.class_file.ClassFile.{ClassFile}
 use Rattle.jv_class.specs.ClassTexts.{ClassText}
 use Rattle.av_app_files.specs.FileRules.{AreAllLoaded, IsLoaded}
 use Rattle.av_app_files.specs.Folders.{Folders, Source, AreSources}
-use Rattle.av_one_application.proofs.Orders.{one_zip, same_sorted}
+use Rattle.av_one_application.proofs.Orders.{same_sorted}
 
 -- the law that bytes are the text of one class
 abbrev pub OneText : Type 0

@@ -1,6 +1,6 @@
 -- Lists that rise by an order: two with the same elements are the same.
 use Rattle.std.proofs.Common.{◌≡◌, List, [], ◌∷◌, Contains, map, refl, sym, ap, ◌∙◌, subst, ⊎_elim}
-use Rattle.std.specs.List.{AllByRecursion, AllZip}
+use Rattle.std.specs.List.{AllByRecursion}
 use Rattle.std.specs.Cmp.{IsTotalOrder}
 use Rattle.std.specs.Ordering.{ordering_reverse}
 use Rattle.std.specs.declared.cmp.Ordering.{Ordering}
@@ -73,14 +73,3 @@ pub same_sorted : {X K : Type 0} (cmp : K → K → Ordering) (key : X → K) �
     → ((x : X) → Contains xs x → Contains ys x) → ((x : X) → Contains ys x → Contains xs x) → xs ≡ ys
 same_sorted cmp key total xs ys up rises into back =
     same_rising (ComesFirst cmp key) (first_apart cmp key total) xs ys (rises_by_keys cmp key xs up) (rises_by_keys cmp key ys rises) into back
-
--- ---- two lists, element by element
-
-pub one_zip : {X Y : Type 0} (R : X → Y → Type 0) → ((x : X) (y z : Y) → R x y → R x z → y ≡ z)
-    → (xs : List X) (ys zs : List Y) → AllZip R xs ys → AllZip R xs zs → ys ≡ zs
-one_zip R one [] [] [] p q = refl
-one_zip R one [] [] (z ∷ zs) p q = absurd q
-one_zip R one [] (y ∷ ys) zs p q = absurd p
-one_zip R one (x ∷ xs) [] zs p q = absurd p
-one_zip R one (x ∷ xs) (y ∷ ys) [] p q = absurd q
-one_zip R one (x ∷ xs) (y ∷ ys) (z ∷ zs) p q = λ i. one x y z p.0 q.0 i ∷ one_zip R one xs ys zs p.1 q.1 i

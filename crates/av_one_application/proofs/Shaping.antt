@@ -1,6 +1,7 @@
 -- A class file declares one shape.
 use Rattle.std.proofs.Common.{◌≡◌, ℕ, List, Option, Some, None, Bool, refl, sym, ◌∙◌, subst}
 use Rattle.std.proofs.lemmas.Option.{same_Some}
+use Rattle.jv_lists.proofs.Zips.{one_zip}
 use Rattle.jv_types.specs.declared.access.Access.{Access}
 use Rattle.jv_types.specs.declared.desc.Desc.{Desc}
 use Rattle.jv_types.specs.declared.desc.MethodDesc.{MethodDesc}
@@ -14,7 +15,6 @@ use Rattle.jv_names.specs.PoolNames.{HasText}
 use Rattle.jv_class.specs.declared.class_file.ClassFile.{ClassFile}
 use Rattle.jv_class.specs.declared.class_file.Member.{Member}
 use Rattle.jv_class.specs.Shapes.{IsFieldShape, IsMethodShape, IsParent, IsShapeOf}
-use Rattle.av_one_application.proofs.Orders.{one_zip}
 
 -- the laws that a descriptor stands for one type
 pub record Laws : Type 0 where
