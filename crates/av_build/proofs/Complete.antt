@@ -3,6 +3,7 @@ use Rattle.std.proofs.Common.{◌≡◌, ℕ, ◌<◌, ◌≤◌, ◌^◌, ◌++
 use Rattle.std.proofs.lemmas.Bool.{cases_lt}
 use Rattle.std.proofs.lemmas.List.{length-append, length-map}
 use Rattle.std.proofs.lemmas.List.Elements.{Contains-append_cases, Contains-append_left, Contains-append_right}
+use Rattle.jv_lists.proofs.Among.{mapped_from}
 use Rattle.jv_types.specs.declared.shapes.Shape.{Shape}
 use Rattle.jv_world.specs.Worlds.{AreNumbered, IsAbsent, IsNamed, NamesSuper}
 use Rattle.jv_class.specs.declared.class_file.ClassFile.{ClassFile}
@@ -13,7 +14,7 @@ use Rattle.av_collected.specs.Rules.{ClassNamed, Collects, From, IsCollected, It
 use Rattle.av_collected.proofs.Lists.{at_place}
 use Rattle.av_stages.specs.Stages.{IsCollectedOfSome, IsKnown}
 use Rattle.av_stops.specs.FirstStops.{whole_world}
-use Rattle.av_build.proofs.Lists.{both_apart, name_of, named_back, rising_apart}
+use Rattle.av_build.proofs.Lists.{both_apart, name_of, rising_apart}
 
 -- ---- collected classes are of the library
 
@@ -62,7 +63,7 @@ module _ (given : Application) (found : Collected) (of : IsCollectedOfSome given
         names = map name_of found.full;
         rising = of.collected.rising;
         more = let e = length-map found.full name_of in omega (arith, e, lots);
-        each = λ name h. let s = named_back found.full name h in subst (λ (n : List ℕ). IsCollected given of.library (ClassNamed n)) s.2 (of.collected.each s.0 s.1).0;
+        each = λ name h. let s = mapped_from name_of found.full name h in subst (λ (n : List ℕ). IsCollected given of.library (ClassNamed n)) s.2 (of.collected.each s.0 s.1).0;
       })))
       (λ (few : length found.full ≤ 8000). few)
       (cases_lt 8000 (length found.full))

@@ -1,6 +1,7 @@
 -- No class of a file declares two fields, or two methods, of one name and descriptor.
 use Rattle.std.proofs.Common.{◌≡◌, ℕ, ◌++◌, inl, inr, Bool, true, false, List, Some, Contains, slice_get, refl, sym, ap, ◌∙◌, subst, ⊎_elim}
 use Rattle.std.proofs.lemmas.List.Elements.{Contains-append_cases}
+use Rattle.jv_lists.proofs.Zips.{zip_back}
 use Rattle.jv_types.specs.declared.desc.Desc.{Desc}
 use Rattle.jv_types.specs.declared.desc.MethodDesc.{MethodDesc}
 use Rattle.jv_types.specs.declared.ids.ClassId.{ClassId}
@@ -24,7 +25,7 @@ use Rattle.av_collected.specs.Naming.{Application}
 use Rattle.av_stages.specs.Stages.{IsCollectedOfSome, IsKnown}
 use Rattle.av_stops.specs.FirstStops.{whole_world}
 use Rattle.av_stops.specs.Programs.{IsOfFile}
-use Rattle.av_build.proofs.Lists.{right_of, right_pair}
+use Rattle.av_build.proofs.Lists.{right_of}
 
 -- the laws of descriptors
 pub record Laws : Type 0 where
@@ -42,8 +43,8 @@ module _ (laws : Laws) where
   one_field : (s : Shape) → IsFileShape s → (i j : ℕ) (x y : FieldShape) → slice_get s.fields i ≡ Some x → slice_get s.fields j ≡ Some y → IsFieldCalled x.name x.desc y → i ≡ j
   one_field s own i j x y p q called =
       let pool = own.class.pool in
-      let a = right_pair (IsFieldShape pool) own.class.fields s.fields own.states.fields i x p in
-      let b = right_pair (IsFieldShape pool) own.class.fields s.fields own.states.fields j y q in
+      let a = zip_back (IsFieldShape pool) own.class.fields s.fields own.states.fields i x p in
+      let b = zip_back (IsFieldShape pool) own.class.fields s.fields own.states.fields j y q in
       let names : text_at pool a.0.name ≡ text_at pool b.0.name = a.2.name ∙ ap (λ (n : List ℕ). Some n) (sym called.0) ∙ sym b.2.name in
       let spelled : IsFieldText a.2.desc.text y.desc = subst (λ (d : Desc). IsFieldText a.2.desc.text d) (sym called.1) a.2.desc.kind in
       let texts : a.2.desc.text ≡ b.2.desc.text = laws.fields a.2.desc.text b.2.desc.text y.desc spelled b.2.desc.kind in
@@ -53,8 +54,8 @@ module _ (laws : Laws) where
   one_method : (s : Shape) → IsFileShape s → (i j : ℕ) (x y : MethodShape) → slice_get s.methods i ≡ Some x → slice_get s.methods j ≡ Some y → IsMethodCalled x.name x.desc y → i ≡ j
   one_method s own i j x y p q called =
       let pool = own.class.pool in
-      let a = right_pair (IsMethodShape pool) own.class.methods s.methods own.states.methods i x p in
-      let b = right_pair (IsMethodShape pool) own.class.methods s.methods own.states.methods j y q in
+      let a = zip_back (IsMethodShape pool) own.class.methods s.methods own.states.methods i x p in
+      let b = zip_back (IsMethodShape pool) own.class.methods s.methods own.states.methods j y q in
       let names : text_at pool a.0.name ≡ text_at pool b.0.name = a.2.name ∙ ap (λ (n : List ℕ). Some n) (sym called.0) ∙ sym b.2.name in
       let spelled : IsMethodText a.2.desc.text y.desc = subst (λ (d : MethodDesc). IsMethodText a.2.desc.text d) (sym called.1) a.2.desc.kind in
       let texts : a.2.desc.text ≡ b.2.desc.text = laws.methods a.2.desc.text b.2.desc.text y.desc spelled b.2.desc.kind in

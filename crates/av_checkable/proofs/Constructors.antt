@@ -36,6 +36,7 @@ use Rattle.av_collected.specs.Answers.{AreCollected, FailsNot}
 use Rattle.av_collected.specs.Libraries.{AreWhole, HasMethodAt, HasShape, IsLibrary, IsOfLibrary, LibraryFile}
 use Rattle.av_collected.specs.Naming.{Application, HasInsn}
 use Rattle.av_collected.specs.Rules.{Item, From, Nothing, One, Two, ClassNamed, FieldAt, MethodAt, Collects, named_by_instruction, named_by_field, named_by_method, named_as_super, named_by_handler, named_by_map, supertype, resolved_field, resolved_method, inherited_method, in_field, in_method, core_class, core_method, same_signature, IsCollected, of_nothing, of_one, of_two}
+use Rattle.av_collected.proofs.Lists.{at_place}
 use Rattle.av_stops.specs.Applications.{IsGivenBy}
 use Rattle.av_stops.specs.Bodies.{HasDecoded}
 use Rattle.av_stops.specs.FirstStops.{program_world}
@@ -44,7 +45,7 @@ use Rattle.av_stops.specs.MethodRules.{AreAccepted, IsAccepted, IsMember, Passes
 use Rattle.av_stops.specs.Programs.{AreStated, CollectsNoStaticInit}
 use Rattle.av_checkable.proofs.Calls.{declared_by, init_kept, static_call}
 use Rattle.av_checkable.proofs.Deciding.{as_core}
-use Rattle.av_checkable.proofs.Lists.{at_place, get_parts, picked_inside}
+use Rattle.av_checkable.proofs.Lists.{get_parts, picked_inside}
 use Rattle.av_checkable.proofs.Members.{OneText, one_method}
 use Rattle.av_checkable.proofs.Worlds.{IsCut, cut_of}
 

@@ -2,6 +2,7 @@
 use Rattle.std.proofs.Common.{◌≡◌, ℕ, ◌⊎◌, inl, inr, true, false, List, Contains, codes, refl, sym, ◌∙◌, subst, ⊎_elim, arith}
 use Rattle.std.specs.Prelude.{bit_and}
 use Rattle.std.proofs.lemmas.List.Elements.{Contains-append_right}
+use Rattle.jv_lists.proofs.Zips.{zip_back, zip_into}
 use Rattle.jv_types.specs.declared.access.Access.{Access}
 use Rattle.jv_types.specs.declared.shapes.Shape.{Shape}
 use Rattle.jv_class.specs.declared.class_file.ClassFile.{ClassFile}
@@ -15,11 +16,12 @@ use Rattle.av_collected.specs.Answers.{AreCollected, FailsNot, IsReduced}
 use Rattle.av_collected.specs.Libraries.{HasShape, IsLibrary, IsOfLibrary, LibraryFile}
 use Rattle.av_collected.specs.Naming.{Application}
 use Rattle.av_collected.specs.Rules.{ClassNamed, MethodAt, IsCollected, core_class, core_method, of_nothing}
+use Rattle.av_collected.proofs.Lists.{at_place}
 use Rattle.av_app_files.specs.FileRules.{BeginsWith, HasReservedName}
 use Rattle.av_stops.specs.Applications.{IsGivenBy}
 use Rattle.av_stops.specs.FirstStops.{program_world}
 use Rattle.av_checkable.proofs.Deciding.{as_core}
-use Rattle.av_checkable.proofs.Lists.{at_place, kept, zip_left, zip_right}
+use Rattle.av_checkable.proofs.Lists.{kept}
 
 -- ---- names of the platform
 
@@ -40,7 +42,7 @@ reserved name is = ⊎_elim (class_reserved name) (interface_reserved name) is
 pub is_free : (classes : List ClassFile) (given : Application) → ((class : ClassFile) → Contains classes class → HasReservedName class → ⊥) → IsGivenBy classes given
     → (name : List ℕ) → IsCoreClass name ⊎ IsCoreInterface name → IsOfLibrary given.shapes name
 is_free classes given free is_given name is shape here named =
-    let own = zip_right (λ (c : ClassFile) (s : Shape). IsShapeOf c true s) classes given.shapes is_given.shapes here.0 shape (at_place given.shapes shape here) in
+    let own = zip_back (λ (c : ClassFile) (s : Shape). IsShapeOf c true s) classes given.shapes is_given.shapes here.0 shape (at_place given.shapes shape here) in
     let begins : BeginsWith shape.name (codes "java/") = reserved shape.name (subst (λ (n : List ℕ). IsCoreClass n ⊎ IsCoreInterface n) (sym named) is) in
     free own.0 (among_from_get classes here.0 own.0 own.1) (shape.name, own.2.name, inr (inl begins))
 
@@ -83,7 +85,7 @@ module _ (given : Application) (library : List LibraryFile) where
         let its = collected.each full.0 full.1 in
         let file = its.1 in
         let core : IsAsCore full.0 = as_core full.0 (λ n. passed.0 full.0.name (its.0, file.0, file.1, file.2, inr (inr (full.0, file.3, n)))) in
-        let cut = zip_left (IsReduced given library) found.full found.shapes collected.reduced full.1.0 full.0 (at_place found.full full.0 full.1) in
+        let cut = zip_into (IsReduced given library) found.full found.shapes collected.reduced full.1.0 full.0 (at_place found.full full.0 full.1) in
         let library_one : full.0.application ≡ false = (map_of.shapes file.0 full.0 file.1 file.3).of_library in
         let open_name : IsOfLibrary given.shapes full.0.name = subst (λ (n : List ℕ). IsOfLibrary given.shapes n) (sym full.2) (free name is) in (
           cut.0,

@@ -1,41 +1,15 @@
 -- Elements of lists by their places.
-use Rattle.std.proofs.Common.{◌≡◌, ℕ, zero, suc, ◌+◌, ◌⊎◌, inl, inr, List, [], ◌∷◌, ◌++◌, Some, Contains, slice_get, refl, sym, ap, ◌∙◌, subst, ⊎_elim, arith}
-use Rattle.std.specs.List.{AllZip}
-use Rattle.std.proofs.lemmas.Option.{slice_get-get_or}
+use Rattle.std.proofs.Common.{◌≡◌, ℕ, zero, suc, ◌+◌, ◌⊎◌, inl, inr, List, [], ◌∷◌, ◌++◌, Some, Contains, slice_get, sym, subst, ⊎_elim, arith}
 use Rattle.jv_resolve.proofs.PlacesLemmas.{among_from_get}
 use Rattle.av_collected.specs.Answers.{Picks}
 use Rattle.av_collected.proofs.Lists.{in_head, in_tail, of_cons}
 
-pub at_place : {X : Type 0} (xs : List X) (x : X) (p : Contains xs x) → slice_get xs p.0 ≡ Some x
-at_place {X} xs x p = slice_get-get_or xs p.0 x p.1 ∙ ap (λ (y : X). Some y) p.2
-
 -- ---- one list behind the other
-
-pub get_front : {X : Type 0} (xs ys : List X) (k : ℕ) (x : X) → slice_get xs k ≡ Some x → slice_get (xs ++ ys) k ≡ Some x
-get_front [] ys k x e = absurd cc
-get_front (y ∷ xs) ys zero x e = e
-get_front (y ∷ xs) ys (suc k) x e = get_front xs ys k x e
 
 pub get_parts : {X : Type 0} (xs ys : List X) (k : ℕ) (x : X) → slice_get (xs ++ ys) k ≡ Some x → (slice_get xs k ≡ Some x) ⊎ Contains ys x
 get_parts [] ys k x e = inr (among_from_get ys k x e)
 get_parts (y ∷ xs) ys zero x e = inl e
 get_parts (y ∷ xs) ys (suc k) x e = get_parts xs ys k x e
-
--- ---- two lists, element by element
-
-pub zip_left : {X Y : Type 0} (R : X → Y → Type 0) (xs : List X) (ys : List Y) → AllZip R xs ys → (k : ℕ) (x : X) → slice_get xs k ≡ Some x → (y : Y) × (slice_get ys k ≡ Some y) × R x y
-zip_left R [] [] all k x e = absurd cc
-zip_left R [] (y ∷ ys) all k x e = absurd all
-zip_left R (z ∷ xs) [] all k x e = absurd all
-zip_left {X} R (z ∷ xs) (y ∷ ys) all zero x e = let same : z ≡ x = cc in (y, refl, subst (λ (a : X). R a y) same all.0)
-zip_left R (z ∷ xs) (y ∷ ys) all (suc k) x e = zip_left R xs ys all.1 k x e
-
-pub zip_right : {X Y : Type 0} (R : X → Y → Type 0) (xs : List X) (ys : List Y) → AllZip R xs ys → (k : ℕ) (y : Y) → slice_get ys k ≡ Some y → (x : X) × (slice_get xs k ≡ Some x) × R x y
-zip_right R [] [] all k y e = absurd cc
-zip_right R [] (z ∷ ys) all k y e = absurd all
-zip_right R (x ∷ xs) [] all k y e = absurd all
-zip_right {X} {Y} R (x ∷ xs) (z ∷ ys) all zero y e = let same : z ≡ y = cc in (x, refl, subst (λ (a : Y). R x a) same all.0)
-zip_right R (x ∷ xs) (z ∷ ys) all (suc k) y e = zip_right R xs ys all.1 k y e
 
 -- ---- picked elements
 

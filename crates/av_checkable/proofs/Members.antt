@@ -2,6 +2,7 @@
 use Rattle.std.proofs.Common.{◌≡◌, ◌||◌, ℕ, ◌<◌, Bool, true, false, if◌then◌else◌, IsTrue, List, Some, None, Contains, count_by, slice_get, refl, sym, ap, ◌∙◌, subst, arith, eqb-true, eq-eqb}
 use Rattle.std.specs.Prelude.{bit_and}
 use Rattle.std.proofs.lemmas.Bool.{false≢true}
+use Rattle.jv_lists.proofs.Zips.{zip_back}
 use Rattle.jv_types.specs.declared.desc.MethodDesc.{MethodDesc}
 use Rattle.jv_types.specs.declared.shapes.MethodShape.{MethodShape}
 use Rattle.jv_types.specs.declared.shapes.Shape.{Shape}
@@ -18,7 +19,6 @@ use Rattle.jv_resolve.specs.Members.{IsAbstract}
 use Rattle.av_stops.specs.LibraryFolders.{IsStated}
 use Rattle.av_stops.specs.Programs.{IsOfFile}
 use Rattle.av_one_application.proofs.MethodCodes.{counted, is_member, none_counted}
-use Rattle.av_checkable.proofs.Lists.{zip_right}
 
 -- ---- codes
 
@@ -66,8 +66,8 @@ module _ (text : OneText) where
   pub distinct_methods : (s : Shape) → IsStated s → (i j : ℕ) (x y : MethodShape) → slice_get s.methods i ≡ Some x → slice_get s.methods j ≡ Some y → x.name ≡ y.name → x.desc ≡ y.desc → i ≡ j
   distinct_methods s stated i j x y p q name desc =
       let class = stated.1.class in
-      let a = zip_right (IsMethodShape class.pool) class.methods s.methods stated.1.states.methods i x p in
-      let b = zip_right (IsMethodShape class.pool) class.methods s.methods stated.1.states.methods j y q in
+      let a = zip_back (IsMethodShape class.pool) class.methods s.methods stated.1.states.methods i x p in
+      let b = zip_back (IsMethodShape class.pool) class.methods s.methods stated.1.states.methods j y q in
       let names : text_at class.pool a.0.name ≡ text_at class.pool b.0.name = a.2.name ∙ ap (λ (n : List ℕ). Some n) name ∙ sym b.2.name in
       let spelled : IsMethodText a.2.desc.text y.desc = subst (λ (d : MethodDesc). IsMethodText a.2.desc.text d) desc a.2.desc.kind in
       let texts : a.2.desc.text ≡ b.2.desc.text = text a.2.desc.text b.2.desc.text y.desc spelled b.2.desc.kind in
