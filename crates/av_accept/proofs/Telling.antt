@@ -148,6 +148,7 @@ passed main classes given found program known some built = record {
   found = found;
   of_files = known.of_files;
   is_given = known.is_given;
+  few_given = known.collectable.few;
   is_library = some.is_library;
   stated = some.stated;
   collected = some.collected;

@@ -6,7 +6,7 @@ use Rattle.av_standin_of.specs.Classes.{IsCollectedClass}
 use Rattle.av_stops.specs.Programs.{IsCollectedWorld}
 use Rattle.av_sketches.specs.Conditions.{CanStandIn, HasClassForm, LeavesRoom}
 use Rattle.av_can_stand_in.proofs.Classes.{class_form}
-use Rattle.av_can_stand_in.proofs.Counts.{few_interfaces}
+use Rattle.av_can_stand_in.proofs.Counts.{few_classes, few_interfaces}
 use Rattle.av_can_stand_in.proofs.Dimensions.{few_dims}
 use Rattle.av_can_stand_in.proofs.Names.{free_names}
 use Rattle.av_can_stand_in.proofs.Parts.{cut_of, library_cut, own_file, own_of, parts}
@@ -23,10 +23,10 @@ module _ (w : List Shape) (dims : ℕ) (p : IsCollectedWorld w dims) where
   room : (s : Shape) → IsCollectedClass w s → LeavesRoom w s
   room s is = leaves_room w dims p s (library_cut w dims p s is.0 is.1)
 
-  pub can_stand_in : CoreClasses w → length w ≤ 28000 → CanStandIn w dims
-  can_stand_in core few = record {
+  pub can_stand_in : CoreClasses w → CanStandIn w dims
+  can_stand_in core = record {
     few_dims = few_dims w dims p;
-    few_classes = few;
+    few_classes = few_classes w dims p;
     formed = formed;
     collected = room;
     few_interfaces = few_interfaces w dims p;

@@ -128,6 +128,7 @@ module _ (laws : Laws) (program : Program) (p : IsAcceptedProgram program) where
     found = p.found;
     of_files = p.of_files;
     is_given = p.is_given;
+    few_given = p.few_given;
     is_library = p.is_library;
     stated = p.stated;
     collected = p.collected;

@@ -1,10 +1,17 @@
 -- The program of two folders passed every rule.
-use Rattle.std.proofs.Common.{ℕ, inl, inr, List, [], ◌∷◌, Option, Some, Contains, refl, sym, subst, ⊎_elim}
+use Rattle.std.proofs.Common.{ℕ, ◌<◌, ◌≤◌, inl, inr, true, List, [], ◌∷◌, length, map, Option, Some, Contains, refl, sym, subst, ⊎_elim, arith}
 use Rattle.std.specs.List.{AllZip}
-use Rattle.std.proofs.lemmas.List.Sorted.{Contains-permutation, IsPermutation-sym}
+use Rattle.std.proofs.lemmas.Bool.{cases_lt}
+use Rattle.std.proofs.lemmas.List.{length-map}
+use Rattle.std.proofs.lemmas.List.Sorted.{Contains-permutation, IsPermutation-sym, length_permutation}
+use Rattle.std.proofs.lemmas.Slice.Zip.{AllZip-long}
+use Rattle.jv_lists.proofs.Among.{mapped_from}
 use Rattle.jv_types.specs.declared.quantity.Quantity.TheVariants as quantities
 use Rattle.jv_types.specs.declared.shapes.Shape.{Shape}
+use Rattle.jv_types.specs.Quantities.{quantity_limit}
+use Rattle.jv_host.specs.Files.{class_names}
 use Rattle.jv_class.specs.declared.class_file.ClassFile.{ClassFile}
+use Rattle.jv_class.specs.Shapes.{IsShapeOf}
 use Rattle.av_collected.specs.Libraries.{LibraryFile}
 use Rattle.av_collected.specs.Naming.{Application}
 use Rattle.av_collected.proofs.Lists.{of_cons, in_none}
@@ -12,6 +19,7 @@ use Rattle.av_program.specs.declared.program.Program.{Program}
 use Rattle.av_app_files.specs.FileRules.{HasReservedName, IsLoaded}
 use Rattle.av_app_files.specs.Folders.{Folders, Source}
 use Rattle.av_stops.specs.Applications.{IsApplication}
+use Rattle.av_checkable.proofs.Lists.{no_more}
 use Rattle.av_stops.specs.LibraryFolders.{IsClassOf, IsLibraryIn, IsWorth}
 use Rattle.av_stops.specs.Programs.{AreStated, IsOfFile, IsProgram}
 use Rattle.av_checkable.specs.Accepted.{IsAcceptedProgram}
@@ -37,6 +45,23 @@ are_stated folders library is file shape h states =
     let worth : IsWorth file.name own.0 (Some shape) = subst (λ (s : Option Shape). IsWorth file.name own.0 s) states own.2 in
     (own.0, subst (λ (n : List ℕ). IsClassOf n own.0 shape) (sym worth.named) worth)
 
+-- the classes of an application are no more than the names that are listed
+few_given : (folders : Folders) (classes : List ClassFile) (given : Application) → IsApplication folders classes given → length given.shapes ≤ quantity_limit quantities.Files
+few_given folders classes given app =
+    let name : Source → List ℕ = λ s. s.name in
+    let sources = app.loaded.sources in
+    let are = app.loaded.are_sources in
+    let listed = class_names folders.files folders.app in
+    let inside : (n : List ℕ) → Contains (map name sources) n → Contains listed n =
+    λ n among. let own = mapped_from name sources n among in subst (λ (x : List ℕ). Contains listed x) own.2 (are.each own.0 own.1).listed in
+    let counted = no_more (map name sources) listed are.rising inside in
+    let long = length-map sources name in
+    let files = AllZip-long (IsLoaded folders) sources app.in_file_order app.loaded.loaded.each in
+    let sorted = length_permutation app.in_file_order classes app.same in
+    let stated = AllZip-long (λ (class : ClassFile) (shape : Shape). IsShapeOf class true shape) classes given.shapes app.is_given.shapes in
+    let few : length listed ≤ 20000 = ⊎_elim (λ (more : 20000 < length listed). absurd (app.loaded.few more)) (λ le. le) (cases_lt 20000 (length listed)) in
+    omega (arith, counted, long, files, sorted, stated, few)
+
 pub of_folders : (folders : Folders) (main : Option (List ℕ)) (program : Program) → IsProgram folders main program → IsAcceptedProgram program
 of_folders folders main program p =
     let sound = p.is_typed.is_sound in
@@ -49,6 +74,7 @@ of_folders folders main program p =
       found = p.found;
       of_files = are_free folders p.classes p.given files.application;
       is_given = files.application.is_given;
+      few_given = few_given folders p.classes p.given files.application;
       is_library = files.library_is.is_library;
       stated = are_stated folders p.library files.library_is;
       collected = gathered.collected;

@@ -1,7 +1,14 @@
 -- Elements of lists by their places.
-use Rattle.std.proofs.Common.{◌≡◌, ℕ, zero, suc, ◌+◌, ◌⊎◌, inl, inr, List, [], ◌∷◌, ◌++◌, Some, Contains, slice_get, refl, sym, ap, ◌∙◌, subst, ⊎_elim, arith}
+use Rattle.std.proofs.Common.{◌≡◌, ℕ, zero, suc, ◌+◌, ◌≤◌, ◌⊎◌, inl, inr, List, [], ◌∷◌, ◌++◌, length, take, drop, Some, Contains, slice_get, refl, sym, ap, ◌∙◌, subst, ⊎_elim, arith, take-append-drop, drop-cons, length-append}
 use Rattle.std.specs.List.{AllZip}
+use Rattle.std.specs.List.Sorted.{IsStrictlySortedBy}
+use Rattle.std.specs.Ordering.{nat_cmp}
+use Rattle.std.specs.Cmp.Lexicographic.{nat_list_cmp_total, slice_cmp}
+use Rattle.std.specs.declared.cmp.Ordering.TheVariants.{Less, Equal}
+use Rattle.std.proofs.lemmas.Cmp.{tied_itself}
+use Rattle.std.proofs.lemmas.List.Elements.{Contains-append_left, Contains-append_right, Contains-append_cases}
 use Rattle.std.proofs.lemmas.Option.{slice_get-get_or}
+use Rattle.jv_lists.proofs.Among.{of_each}
 use Rattle.jv_resolve.proofs.PlacesLemmas.{among_from_get}
 use Rattle.av_collected.specs.Answers.{Picks}
 use Rattle.av_collected.proofs.Lists.{in_head, in_tail, of_cons}
@@ -61,3 +68,39 @@ picked_inside {X} P from (y ∷ xs) picked (inl (first, rest, is, more)) x h =
     (λ later. in_tail y xs x (picked_inside P (suc from) xs rest more x later))
     (of_cons y rest x there)
 picked_inside P from (y ∷ xs) picked (inr (lacks, more)) x h = in_tail y xs x (picked_inside P (suc from) xs picked more x h)
+
+-- ---- different names
+
+-- a list in two parts round one of its elements
+round : {X : Type 0} (xs : List X) (x : X) (p : Contains xs x) → xs ≡ take p.0 xs ++ x ∷ drop (suc p.0) xs
+round {X} xs x p =
+    sym (take-append-drop p.0 xs) ∙ ap (λ (end : List X). take p.0 xs ++ end) (drop-cons xs p.0 x p.1 ∙ ap (λ (y : X). y ∷ drop (suc p.0) xs) p.2)
+
+-- without that element it has each other
+others : {X : Type 0} (before after : List X) (x y : X) → (x ≡ y → ⊥) → Contains (before ++ x ∷ after) y → Contains (before ++ after) y
+others before after x y apart h =
+    ⊎_elim
+    (Contains-append_left before after y)
+    (λ there. ⊎_elim (λ same. absurd (apart same)) (Contains-append_right before after y) (of_cons x after y there))
+    (Contains-append_cases before (x ∷ after) y h)
+
+never_below : (name other : List ℕ) → slice_cmp nat_cmp name other ≡ Less → name ≡ other → ⊥
+never_below name other less same =
+    let tied : slice_cmp nat_cmp name other ≡ Equal = subst (λ (n : List ℕ). slice_cmp nat_cmp name n ≡ Equal) same (tied_itself nat_list_cmp_total name) in
+    let clash : Less ≡ Equal = sym less ∙ tied in
+    absurd cc
+
+-- different names that are all of a list are no more than its elements
+pub no_more : (names all : List (List ℕ)) → IsStrictlySortedBy (slice_cmp nat_cmp) names → ((name : List ℕ) → Contains names name → Contains all name) → length names ≤ length all
+unfolding IsStrictlySortedBy
+no_more [] all rising inside = omega arith
+no_more (name ∷ names) all rising inside =
+    let h = inside name (in_head name names) in
+    let before = take h.0 all in
+    let after = drop (suc h.0) all in
+    let parts : all ≡ before ++ name ∷ after = round all name h in
+    let fewer = no_more names (before ++ after) rising.1
+    (λ other there. others before after name other
+    (never_below name other (of_each (λ (y : List ℕ). slice_cmp nat_cmp name y ≡ Less) names other rising.0 there))
+    (subst (λ (l : List (List ℕ)). Contains l other) parts (inside other (in_tail name names other there)))) in
+    omega (arith, fewer, ap (length {A = List ℕ}) parts, length-append before after, length-append before (name ∷ after))

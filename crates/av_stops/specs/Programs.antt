@@ -1,5 +1,5 @@
 -- The program of two folders, and what is known of each accepted program.
-use Rattle.std.specs.Prelude.{◌≡◌, ◌≤◌, ◌++◌, ℕ, List, Option, Some, Contains}
+use Rattle.std.specs.Prelude.{◌≡◌, ◌≤◌, ◌++◌, ℕ, List, Option, Some, length, Contains}
 use Rattle.jv_types.specs.declared.frames.FramedBody.{FramedBody}
 use Rattle.jv_types.specs.declared.ids.MethodId.{MethodId}
 use Rattle.jv_types.specs.declared.quantity.Quantity.TheVariants as quantities
@@ -57,8 +57,8 @@ CollectsNoStaticInit given library =
     (class : List ℕ) (place : ℕ) (method : MethodShape) → IsCollected given library (MethodAt class place)
     → HasMethodAt library class place method → method.name ≡ init_name → ¬ IsStatic method.flags
 
--- A world, and the greatest dimension: of the classes of some application, none of a reserved name, and what is
--- collected for it of some library, where no rule on collected classes fails and not too many are collected.
+-- A world, and the greatest dimension: of the classes of some application, at most 20,000 and none of a reserved name,
+-- and what is collected for it of some library, where no rule on collected classes fails and not too many are collected.
 pub record IsCollectedWorld (w : List Shape) (dims : ℕ) : Type 0 where
   pub classes : List ClassFile
   pub given : Application
@@ -66,6 +66,7 @@ pub record IsCollectedWorld (w : List Shape) (dims : ℕ) : Type 0 where
   pub found : Collected
   pub of_files : (class : ClassFile) → Contains classes class → IsOfFile class × ¬ HasReservedName class
   pub is_given : IsGivenBy classes given
+  pub few_given : length given.shapes ≤ quantity_limit quantities.Files
   pub is_library : IsLibrary library
   pub stated : AreStated library
   pub collected : AreCollected given library found
